@@ -1,0 +1,19 @@
+-- Sixteen bytes laid over sixteen are those bytes.
+use mathlib.Core.Path.{_≡_, _∙_}
+use native.Mathlib.Omega.{arith}
+use lib.ListN.{length, length-take, length-drop}
+use Rattle.rules.specs.Memory.{part}
+use Rattle.rules.proofs.Laid.{over-all}
+use borrow.Author.Needs.{needs}
+use Rattle.history.proofs.registers_at.Statement.{statement}
+use Rattle.history.proofs.registers_at.Tie as tie
+
+returns : tie.Need-returns
+returns c =
+    let p = part (c .before .before .before .before .before .args .place .now) 2 16 in
+    let sixteen : length p ≡ 16 = simp (length-take, length-drop) (omega arith) in
+    c .before .lay .ensures ∙ over-all _ p (omega (arith, sixteen))
+
+pub registers-at-spec : {M : Type 1} → statement M
+registers-at-spec =
+    tie.close (tie.spec (λ c. search needs) (λ c. search needs) (λ c. search needs) (λ c. search needs) (λ c κs. search needs) returns)

@@ -1,0 +1,356 @@
+// A history's records, written and read back. What a record is stands in the specs of `rules`.
+use rules::Change;
+use rules::Machine;
+use rules::Timers;
+use rules::Wait;
+ghost use mathlib.Core.Path.{_≡_};
+ghost use mathlib.Core.List.{_++_};
+ghost use Prim.Native.Nat.{_+_, _-_, _*_, _/_, _%_, _≤_, _<_};
+ghost use lib.ListN.{length, take, replicate};
+ghost use Rattle.history.specs.Writable.{Writable};
+ghost use Rattle.history.specs.Restored.{restored};
+ghost use Rattle.rules.specs.Memory.{over, part};
+ghost use Rattle.rules.specs.Record.{placeSize, mark, start, count, lastReturn, heldByte, fields, recordWith, byteAt, wordAt, marked, known, allowed, depthSound, keySound, damaged, changeAt, waitAt, stackAt, machineAt};
+
+// The bytes of a place, and where each part of its record lies.
+pub const PLACE: usize = 288;
+
+const AT_MARK: usize = 0;
+
+const AT_V: usize = 2;
+
+const AT_FIELDS: usize = 18;
+
+const AT_I: usize = 18;
+
+const AT_PC: usize = 20;
+
+const AT_DEPTH: usize = 22;
+
+const AT_LAST: usize = 23;
+
+const AT_DELAY: usize = 25;
+
+const AT_TONE: usize = 26;
+
+const AT_HELD: usize = 27;
+
+const AT_START: usize = 28;
+
+const AT_COUNT: usize = 30;
+
+pub const AT_OLD: usize = 32;
+
+// What a record gives back; of a damaged one, the present state and no change.
+pub struct Restored {
+    pub damaged: bool,
+    pub machine: Machine,
+    pub change: Change,
+}
+
+// ---- the parts of a header
+
+fn high(n: u16) -> u8
+    ensures { λ r. ⌜ r ≡ n / 256 % 256 ⌝ }
+{
+    (n / 256) as u8
+}
+
+fn low(n: u16) -> u8
+    ensures { λ r. ⌜ r ≡ n % 256 ⌝ }
+{
+    (n % 256) as u8
+}
+
+fn mark_of(c: Change) -> [u8; 2]
+    ensures { λ r. ⌜ r ≡ mark c ⌝ }
+{
+    match c {
+        Change::Nothing => *b"NO",
+        Change::InMemory(_, _) => *b"ME",
+        Change::InPicture(_, _) => *b"DI",
+    }
+}
+
+fn start_of(c: Change) -> u16
+    ensures { λ r. ⌜ r ≡ start c ⌝ }
+{
+    match c {
+        Change::Nothing => 0,
+        Change::InMemory(s, _) => s,
+        Change::InPicture(s, _) => s,
+    }
+}
+
+fn count_of(c: Change) -> u16
+    ensures { λ r. ⌜ r ≡ count c ⌝ }
+{
+    match c {
+        Change::Nothing => 0,
+        Change::InMemory(_, n) => n,
+        Change::InPicture(_, n) => n,
+    }
+}
+
+fn last_return(m: Machine) -> u16
+    requires { ⌜ m .depth ≤ 12 ⌝ }
+    ensures { λ r. ⌜ r ≡ lastReturn m ⌝ }
+{
+    let depth = m.depth as usize;
+    if depth == 0 { 0 } else { m.stack[depth - 1] }
+}
+
+fn held_byte(w: Wait) -> u8
+    ensures { λ r. ⌜ r ≡ heldByte w ⌝ }
+{
+    match w {
+        Wait::Idle => 0xFF,
+        Wait::Held(k) => k,
+    }
+}
+
+// What follows the registers.
+fn fields_of(m: Machine, c: Change) -> [u8; 14]
+    requires { ⌜ m .depth ≤ 12 ⌝ }
+    ensures { λ r. ⌜ r ≡ fields m c ⌝ }
+{
+    let last = last_return(m);
+    let start = start_of(c);
+    let count = count_of(c);
+    let wait = m.wait;
+    [
+        high(m.i),
+        low(m.i),
+        high(m.pc),
+        low(m.pc),
+        m.depth,
+        high(last),
+        low(last),
+        m.timers.delay,
+        m.timers.tone,
+        held_byte(wait),
+        high(start),
+        low(start),
+        high(count),
+        low(count),
+    ]
+}
+
+// ---- writing
+
+// Fills a place with the record of `m` and `c`; `old` are the bytes that are about to change.
+pub fn write(place: &mut [u8], m: Machine, c: Change, old: &[u8])
+    requires { ⌜ Writable m c (now old) ⌝ }
+    requires { ⌜ length (now place) ≡ placeSize ⌝ }
+    ensures { λ _. ⌜ now (place .exit) ≡ recordWith m c (now (old .entry)) ⌝ }
+{
+    let mark = mark_of(c);
+    let v = m.v;
+    let fields = fields_of(m, c);
+    memory::lay(place, AT_MARK, &mark);
+    memory::lay(place, AT_V, &v);
+    memory::lay(place, AT_FIELDS, &fields);
+    memory::lay(place, AT_OLD, old);
+    memory::clear(place, AT_OLD + old.len());
+}
+
+// Writes the record into the place `next` of a history.
+pub fn keep(history: &mut [u8], next: usize, m: Machine, c: Change, old: &[u8])
+    requires { ⌜ Writable m c (now old) ⌝ }
+    requires { ⌜ placeSize * next + placeSize ≤ length (now history) ⌝ }
+    ensures { λ _. ⌜ now (history .exit) ≡ over (now (history .entry)) (placeSize * next) (recordWith m c (now (old .entry))) placeSize ⌝ }
+{
+    let at = PLACE * next;
+    write(&mut history[at..at + PLACE], m, c, old);
+}
+
+// ---- reading
+
+fn wide(x: u8) -> u16
+    ensures { λ r. ⌜ (r ≡ x) × (r < 256) ⌝ }
+{
+    x as u16
+}
+
+fn word_at(place: &[u8], at: usize) -> u16
+    requires { ⌜ at + 1 < length (now place) ⌝ }
+    ensures { λ r. ⌜ r ≡ wordAt (now (place .entry)) at ⌝ }
+{
+    256 * wide(place[at]) + wide(place[at + 1])
+}
+
+fn is_marked(place: &[u8], a: u8, b: u8) -> bool
+    requires { ⌜ length (now place) ≡ placeSize ⌝ }
+    ensures { λ r. ⌜ r ≡ marked (now (place .entry)) a b ⌝ }
+{
+    (place[AT_MARK] == a) & (place[AT_MARK + 1] == b)
+}
+
+// What the action changed.
+pub fn change_at(place: &[u8]) -> Change
+    requires { ⌜ length (now place) ≡ placeSize ⌝ }
+    ensures { λ r. ⌜ r ≡ changeAt (now (place .entry)) ⌝ }
+{
+    let start = word_at(place, AT_START);
+    let count = word_at(place, AT_COUNT);
+    if is_marked(place, b'M', b'E') {
+        return Change::InMemory(start, count);
+    }
+    if is_marked(place, b'D', b'I') {
+        return Change::InPicture(start, count);
+    }
+    Change::Nothing
+}
+
+fn is_allowed(c: Change) -> bool
+    ensures { λ r. ⌜ r ≡ allowed c ⌝ }
+{
+    match c {
+        Change::Nothing => true,
+        Change::InMemory(s, n) => (1 <= n)
+            & (n <= 16)
+            & (s as usize + n as usize <= Machine::MEMORY),
+        Change::InPicture(s, n) => (1 <= n)
+            & (n <= 256)
+            & (s as usize + n as usize <= Machine::PICTURE),
+    }
+}
+
+fn is_known(place: &[u8]) -> bool
+    requires { ⌜ length (now place) ≡ placeSize ⌝ }
+    ensures { λ r. ⌜ r ≡ known (now (place .entry)) ⌝ }
+{
+    let start = word_at(place, AT_START);
+    let count = word_at(place, AT_COUNT);
+    is_marked(place, b'M', b'E')
+        | is_marked(place, b'D', b'I')
+        | (is_marked(place, b'N', b'O') & (start == 0) & (count == 0))
+}
+
+fn depth_sound(place: &[u8], present: u8) -> bool
+    requires { ⌜ length (now place) ≡ placeSize ⌝ }
+    ensures { λ r. ⌜ r ≡ depthSound (now (place .entry)) present ⌝ }
+{
+    let depth = wide(place[AT_DEPTH]);
+    let last = word_at(place, AT_LAST);
+    (depth <= 12)
+        & (depth <= present as u16 + 1)
+        & (present as u16 <= depth + 1)
+        & (!(depth == 0) | (last == 0))
+}
+
+fn key_sound(place: &[u8]) -> bool
+    requires { ⌜ length (now place) ≡ placeSize ⌝ }
+    ensures { λ r. ⌜ r ≡ keySound (now (place .entry)) ⌝ }
+{
+    (place[AT_HELD] <= 15) | (place[AT_HELD] == 0xFF)
+}
+
+// Whether a record is damaged, beside a state of that depth.
+pub fn is_damaged(place: &[u8], present: u8) -> bool
+    requires { ⌜ length (now place) ≡ placeSize ⌝ }
+    ensures { λ r. ⌜ r ≡ damaged (now (place .entry)) present ⌝ }
+{
+    !(is_known(place)
+        & is_allowed(change_at(place))
+        & depth_sound(place, present)
+        & key_sound(place))
+}
+
+fn wait_at(place: &[u8]) -> Wait
+    requires { ⌜ length (now place) ≡ placeSize ⌝ }
+    ensures { λ r. ⌜ r ≡ waitAt (now (place .entry)) ⌝ }
+{
+    let key = place[AT_HELD];
+    if key == 0xFF {
+        Wait::Idle
+    } else {
+        Wait::Held(key)
+    }
+}
+
+fn registers_at(place: &[u8]) -> [u8; 16]
+    requires { ⌜ length (now place) ≡ placeSize ⌝ }
+    ensures { λ r. ⌜ r ≡ part (now (place .entry)) 2 16 ⌝ }
+{
+    let mut v = [0; 16];
+    memory::lay(&mut v, 0, &place[AT_V..AT_I]);
+    v
+}
+
+// Zeros from `depth` on.
+fn cut(stack: [u16; 12], depth: usize) -> [u16; 12]
+    requires { ⌜ depth ≤ 12 ⌝ }
+    ensures { λ r. ⌜ r ≡ take depth stack ++ replicate (12 - depth) 0 ⌝ }
+{
+    let mut s = stack;
+    let count = 12 - depth;
+    let mut i = 0;
+    while i < count {
+        s[depth + i] = 0;
+        i += 1;
+    }
+    s
+}
+
+fn less_one(n: usize) -> usize
+    ensures { λ r. ⌜ r ≡ n - 1 ⌝ }
+{
+    if n == 0 { 0 } else { n - 1 }
+}
+
+fn stack_at(place: &[u8], stack: [u16; 12]) -> [u16; 12]
+    requires { ⌜ length (now place) ≡ placeSize ⌝ }
+    requires { ⌜ byteAt (now place) 22 ≤ 12 ⌝ }
+    ensures { λ r. ⌜ r ≡ stackAt (now (place .entry)) stack ⌝ }
+{
+    let depth = wide(place[AT_DEPTH]) as usize;
+    let top = less_one(depth);
+    let mut s = stack;
+    s[top] = word_at(place, AT_LAST);
+    cut(s, depth)
+}
+
+// The state that stood before the action, from the state after it.
+pub fn machine_at(place: &[u8], m: Machine) -> Machine
+    requires { ⌜ length (now place) ≡ placeSize ⌝ }
+    requires { ⌜ byteAt (now place) 22 ≤ 12 ⌝ }
+    ensures { λ r. ⌜ r ≡ machineAt (now (place .entry)) m ⌝ }
+{
+    let v = registers_at(place);
+    let after = m.stack;
+    let stack = stack_at(place, after);
+    Machine {
+        v,
+        i: word_at(place, AT_I),
+        pc: word_at(place, AT_PC),
+        stack,
+        depth: place[AT_DEPTH],
+        timers: Timers {
+            delay: place[AT_DELAY],
+            tone: place[AT_TONE],
+        },
+        wait: wait_at(place),
+    }
+}
+
+// Reads a record, beside the present state.
+pub fn read(place: &[u8], present: Machine) -> Restored
+    requires { ⌜ length (now place) ≡ placeSize ⌝ }
+    ensures { λ r. ⌜ r ≡ restored (now (place .entry)) present ⌝ }
+{
+    if is_damaged(place, present.depth) {
+        return Restored {
+            damaged: true,
+            machine: present,
+            change: Change::Nothing,
+        };
+    }
+    let machine = machine_at(place, present);
+    let change = change_at(place);
+    Restored {
+        damaged: false,
+        machine,
+        change,
+    }
+}

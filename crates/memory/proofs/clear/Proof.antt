@@ -1,0 +1,23 @@
+-- `memory::clear` meets its contract. The invariant: i zeros are laid.
+-- Assumes nothing.
+use Prim.Native.Nat.{_-_}
+use native.Mathlib.Omega.{arith}
+use lib.ListN.{replicate, length-replicate, getD-replicate}
+use Rattle.rules.proofs.Laid.{Laid, none, more, full}
+use Rattle.memory.proofs.clear.Statement.{statement}
+use Rattle.memory.proofs.clear.Tie as tie
+
+abbrev Inv-loop : tie.InvT-loop
+Inv-loop buffer₀ at count i₀ buffer i = Laid buffer₀ at (replicate count 0) count buffer i
+
+abbrev μ-loop : tie.MeasureT-loop
+μ-loop buffer₀ at count i₀ buffer i = count - i
+
+loop-again : tie.Need-loop-again Inv-loop μ-loop
+loop-again c = more _ _ _ _ _ _ _ (c .before .loop .inv) (c .loop-test .taken) (getD-replicate _ _ _ _ (c .loop-test .taken))
+
+returns : tie.Need-returns Inv-loop μ-loop
+returns c = full _ _ _ _ _ _ (c .before .loop .inv) (c .loop-test .left) (omega arith)
+
+pub clear-spec : {M : Type 1} → statement M
+clear-spec = tie.close (tie.spec Inv-loop μ-loop (λ c. omega arith) (λ c. none _ _ _ _ (length-replicate _ _) (omega arith)) (λ c. omega arith) (λ c. omega arith) (λ c. omega arith) (λ c. omega arith) loop-again (λ c. c .before .loop .inv .same) returns)

@@ -1,0 +1,23 @@
+-- The invariant: i bytes are laid, and the rest stands as it was.
+use mathlib.Core.Path.{refl}
+use Prim.Native.Nat.{_-_}
+use native.Mathlib.Omega.{arith}
+use lib.ListN.{length}
+use Rattle.rules.proofs.Laid.{Laid, none, more, laid}
+use Rattle.memory.proofs.lay.Statement.{statement}
+use Rattle.memory.proofs.lay.Tie as tie
+
+abbrev Inv-loop : tie.InvT-loop
+Inv-loop buffer₀ at new i₀ buffer i = Laid buffer₀ at new (length new) buffer i
+
+abbrev μ-loop : tie.MeasureT-loop
+μ-loop buffer₀ at new i₀ buffer i = length new - i
+
+loop-again : tie.Need-loop-again Inv-loop μ-loop
+loop-again c = more _ _ _ _ _ _ _ (c .before .before .loop .inv) (c .before .loop-test .taken) refl
+
+returns : tie.Need-returns Inv-loop μ-loop
+returns c = laid _ _ _ _ _ _ (c .before .loop .inv) (c .loop-test .left)
+
+pub lay-spec : {M : Type 1} → statement M
+lay-spec = tie.close (tie.spec Inv-loop μ-loop (λ c. none _ _ _ _ refl (c .pre)) (λ c. omega arith) (λ c. omega arith) (λ c. omega arith) (λ c. omega arith) (λ c. omega arith) loop-again (λ c. c .before .loop .inv .same) returns)

@@ -1,0 +1,117 @@
+-- What is read of a record is what was written there.
+use mathlib.Core.Path.{_≡_, refl, ap, ap₂, _∙_}
+use mathlib.Core.Bool.{true}
+use mathlib.Core.List.{List, _++_, append-assoc}
+use Prim.Native.Nat.{ℕ, _+_, _-_, _/_, _%_, _≤_, _<_}
+use native.Mathlib.Omega.{arith}
+use lib.ListN.{length, getD, replicate, length-append, length-replicate}
+use lib.Seq.{take-at, drop-at, getD-append-add}
+use lib.Dec.{eqb}
+use Rattle.rules.specs.declared.Machine.{Machine}
+use Rattle.rules.specs.declared.Change.{Change}
+use Rattle.rules.specs.declared.Change.the-variants.{Nothing, InMemory, InPicture}
+use Rattle.rules.specs.Memory.{part}
+use Rattle.rules.specs.Record.{mark, start, count, lastReturn, heldByte, fields, recordWith, byteAt, wordAt, known, changeAt}
+use Rattle.rules.proofs.Good.{GoodMachine}
+use Rattle.rules.proofs.Choices.{choice}
+use Rattle.rules.proofs.Parts.{below-get}
+
+pub record Reads (r : List ℕ) (m : Machine) (c : Change) (old : List ℕ) : Type 0 where
+  pub v : part r 2 16 ≡ m .v
+  pub i : wordAt r 18 ≡ m .i
+  pub pc : wordAt r 20 ≡ m .pc
+  pub depth : byteAt r 22 ≡ m .depth
+  pub last : wordAt r 23 ≡ lastReturn m
+  pub delay : byteAt r 25 ≡ m .timers .delay
+  pub tone : byteAt r 26 ≡ m .timers .tone
+  pub held : byteAt r 27 ≡ heldByte (m .wait)
+  pub marked : known r ≡ true
+  pub change : changeAt r ≡ c
+  pub bytes : part r 32 (count c) ≡ old
+
+-- ---- a list that is put together
+
+-- what stands behind a beginning of a elements
+past : (p q : List ℕ) (a k : ℕ) → length p ≡ a → getD (p ++ q) (a + k) 0 ≡ getD q k 0
+past p q a k e = rw (← e, getD-append-add)
+
+middle : (p x q : List ℕ) (a n : ℕ) → length p ≡ a → length x ≡ n → part (p ++ x ++ q) a n ≡ x
+middle p x q a n e f = rw (append-assoc, drop-at p (x ++ q) a e, take-at x q n f)
+
+regroup : (p f b z : List ℕ) → p ++ f ++ b ++ z ≡ p ++ (f ++ (b ++ z))
+regroup p f b z = simp append-assoc
+
+-- two bytes are their number
+word-back : (r : List ℕ) (k n : ℕ) → byteAt r k ≡ n / 256 % 256 → byteAt r (k + 1) ≡ n % 256 → n < 65536 → wordAt r k ≡ n
+word-back r k n e f h = omega arith
+
+-- ---- a record
+
+pub mark-two : (c : Change) → length (mark c) ≡ 2
+mark-two Nothing = refl
+mark-two (InMemory s n) = refl
+mark-two (InPicture s n) = refl
+
+module _ (m : Machine) (c : Change) (old : List ℕ) (sixteen : length (m .v) ≡ 16) where
+  abbrev rest : List ℕ
+  rest = old ++ replicate (256 - count c) 0
+
+  front : length (mark c ++ m .v) ≡ 18
+  front = rw (length-append, mark-two c, sixteen)
+
+  split : recordWith m c old ≡ mark c ++ m .v ++ (fields m c ++ rest)
+  split = regroup (mark c ++ m .v) (fields m c) old (replicate (256 - count c) 0)
+
+  pub record-length : length old ≡ count c → count c ≤ 256 → length (recordWith m c old) ≡ 288
+  record-length e h = rw split (simp (length-append, length-replicate, mark-two c, sixteen) (omega arith))
+
+  -- the bytes from the 18th on
+  field : (k : ℕ) → byteAt (recordWith m c old) (18 + k) ≡ byteAt (fields m c ++ rest) k
+  field k = ap (λ (r : List ℕ). byteAt r (18 + k)) split ∙ past (mark c ++ m .v) (fields m c ++ rest) 18 k front
+
+  v-back : part (recordWith m c old) 2 16 ≡ m .v
+  v-back = ap (λ (r : List ℕ). part r 2 16) split ∙ middle (mark c) (m .v) (fields m c ++ rest) 2 16 (mark-two c) sixteen
+
+  old-back : length old ≡ count c → part (recordWith m c old) 32 (count c) ≡ old
+  old-back =
+      middle (mark c ++ m .v ++ fields m c) old (replicate (256 - count c) 0) 32 (count c)
+      (length-append (mark c ++ m .v) (fields m c) ∙ ap (λ (n : ℕ). n + 14) front)
+
+  start-back : start c < 65536 → wordAt (recordWith m c old) 28 ≡ start c
+  start-back = word-back (recordWith m c old) 28 (start c) (field 10) (field 11)
+
+  count-back : count c < 65536 → wordAt (recordWith m c old) 30 ≡ count c
+  count-back = word-back (recordWith m c old) 30 (count c) (field 12) (field 13)
+
+module _ (m : Machine) (old : List ℕ) (e : length (m .v) ≡ 16) where
+  change-back : (c : Change) → start c < 65536 → count c < 65536 → changeAt (recordWith m c old) ≡ c
+  change-back Nothing s n = refl
+  change-back (InMemory a k) s n = ap₂ InMemory (start-back m (InMemory a k) old e s) (count-back m (InMemory a k) old e n)
+  change-back (InPicture a k) s n = ap₂ InPicture (start-back m (InPicture a k) old e s) (count-back m (InPicture a k) old e n)
+
+  known-back : (c : Change) → known (recordWith m c old) ≡ true
+  known-back Nothing = rw (start-back m Nothing old e (omega arith), count-back m Nothing old e (omega arith))
+  known-back (InMemory a k) = refl
+  known-back (InPicture a k) = refl
+
+pub reads : (m : Machine) (c : Change) (old : List ℕ) → GoodMachine m → start c < 65536 → count c ≤ 256 → length old ≡ count c
+    → Reads (recordWith m c old) m c old
+reads m c old g s n sized =
+    let e = g .v .size in
+    let r = recordWith m c old in
+    let at = field m c old e in
+    let last : lastReturn m < 65536 =
+    choice (λ (a : ℕ). a < 65536) (eqb (m .depth) 0) (omega arith) (omega (arith, below-get (omega arith) (g .calls .below) (m .depth - 1))) in
+    record {
+      v = v-back m c old e;
+      i = word-back r 18 (m .i) (at 0) (at 1) (g .i);
+      pc = word-back r 20 (m .pc) (at 2) (at 3) (g .pc);
+      depth = at 4;
+      last = word-back r 23 (lastReturn m) (at 5) (at 6) last;
+      delay = at 7;
+      tone = at 8;
+      held = at 9;
+      marked = known-back m old e c;
+      change = change-back m old e c s (omega arith);
+      bytes = old-back m c old e sized;
+    }

@@ -1,0 +1,31 @@
+-- Laws of choices: what holds of each side holds of what is picked, and a number that is 0 says which side it came from.
+use mathlib.Core.Path.{_≡_, refl}
+use mathlib.Core.Bool.{Bool, true, false, _&&_}
+use Prim.Native.Nat.{ℕ, suc}
+use native.Mathlib.Omega.{arith}
+use lib.Dec.{eqb}
+use borrow.Author.Tests.{eqb-true, eqb-false}
+use Rattle.rules.specs.Number.{pick, unless}
+
+pub choice : {A : Type 0} (P : A → Type 0) (t : Bool) {p q : A} → P p → P q → P (pick t p q)
+choice P true a b = a
+choice P false a b = b
+
+pub by-test : {A : Type 0} (P : A → Type 0) (a b : ℕ) {x y : A} → (a ≡ b → P x) → ((a ≡ b → ⊥) → P y) → P (pick (eqb a b) x y)
+by-test P a b {x} {y} same other = go (eqb a b) refl
+  where
+    go : (t : Bool) → eqb a b ≡ t → P (pick t x y)
+    go true e = same (eqb-true a b e)
+    go false e = other (eqb-false a b e)
+
+pub and-both : {p q : Bool} → p ≡ true → q ≡ true → (p && q) ≡ true
+and-both a b = rw (a, b)
+
+-- ---- a number is 0
+
+pub not-zero : (k : ℕ) → suc k ≡ 0 → ⊥
+not-zero k e = omega arith
+
+pub passed : (t : Bool) (k x : ℕ) → unless t (suc k) x ≡ 0 → (t ≡ true) × (x ≡ 0)
+passed true k x e = (refl, e)
+passed false k x e = absurd (not-zero k e)

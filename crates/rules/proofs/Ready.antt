@@ -1,0 +1,144 @@
+-- A world that passes the tests 9 and 10: the tests give it, and every accepted step or tick keeps it.
+use mathlib.Core.Path.{_≡_, sym, _∙_}
+use mathlib.Core.Bool.{true, _&&_, and-eq-true-iff}
+use mathlib.Core.List.{List}
+use Prim.Native.Nat.{ℕ, zero, suc, _+_, _*_, _≤_, _<_}
+use native.Mathlib.Omega.{arith}
+use lib.ListN.{getD, length}
+use lib.Dec.{eqb, ltb, leb}
+use borrow.Author.Tests.{ltb-true, leb-true, eqb-true, le-leb, lt-ltb, eq-eqb, ne-eqb}
+use Rattle.rules.specs.declared.Change.{Change}
+use Rattle.rules.specs.declared.Change.the-variants.{Nothing}
+use Rattle.rules.specs.Number.{pick, unless}
+use Rattle.rules.specs.State.{sound}
+use Rattle.rules.specs.Record.{recordOf}
+use Rattle.rules.specs.Step.{Board, refusalOf, changeOf}
+use Rattle.rules.specs.World.{World, Answer, boardOf, places, historyFits, buffersFit, soundly, answered}
+use Rattle.rules.specs.Call.{nextPlace, written, acted, opAt, stepBoard, stepRefusal, stepped, step, tickBoard, ticked}
+use Rattle.rules.specs.Run.{tickedBy}
+use Rattle.rules.specs.Typed.{TypedBoard}
+use Rattle.rules.proofs.Choices.{by-test, and-both, passed}
+use Rattle.rules.proofs.Good.{GoodBoard}
+use Rattle.rules.proofs.Parts.{over-length, below-get}
+use Rattle.rules.proofs.Sound.{good-sound, sound-good}
+use Rattle.rules.proofs.Undo.{written-length}
+use Rattle.rules.proofs.Follow.{Follows, OpFits, decode-fits, step-follows, tick-follows}
+
+pub record Ready (w : World) : Type 0 where
+  pub good : GoodBoard (boardOf w)
+  pub least : 288 ≤ length (w .history)
+  pub most : length (w .history) ≤ 65536
+  pub next : w .trail .next < places (w .history)
+  pub limit : w .trail .kept ≤ places (w .history)
+
+-- ---- the tests
+
+-- what the tests 9 and 10 say
+pub record Passed (w : World) : Type 0 where
+  pub memory : length (w .memory) ≡ 4096
+  pub picture : length (w .picture) ≡ 256
+  pub least : 288 ≤ length (w .history)
+  pub most : length (w .history) ≤ 65536
+
+pub fits-passed : (w : World) → buffersFit w ≡ true → Passed w
+fits-passed w e =
+    let sizes = eqb (length (w .memory)) 4096 && eqb (length (w .picture)) 256 in
+    let all = and-eq-true-iff sizes (historyFits (w .history)) .0 e in
+    let both = and-eq-true-iff (eqb (length (w .memory)) 4096) (eqb (length (w .picture)) 256) .0 (all .0) in
+    let room = and-eq-true-iff (leb 288 (length (w .history))) (leb (length (w .history)) 65536) .0 (all .1) in
+    record {
+      memory = eqb-true _ _ (both .0);
+      picture = eqb-true _ _ (both .1);
+      least = leb-true _ _ (room .0);
+      most = leb-true _ _ (room .1);
+    }
+
+pub start-ready : (w : World) → TypedBoard (boardOf w) → buffersFit w ≡ true → sound (w .machine) ≡ true
+    → w .trail .next < places (w .history) → w .trail .kept ≤ places (w .history) → Ready w
+start-ready w t fits s next limit =
+    let p = fits-passed w fits in
+    record {
+      good = record {
+        machine = sound-good (w .machine) (t .machine) s;
+        memory = record { size = p .memory; below = t .memory };
+        picture = record { size = p .picture; below = t .picture };
+      };
+      least = p .least;
+      most = p .most;
+      next = next;
+      limit = limit;
+    }
+
+pub tests-ready : (w : World) → TypedBoard (boardOf w) → buffersFit w ≡ true → soundly w ≡ true → Ready w
+tests-ready w t fits s =
+    let n = ltb (w .trail .next) (places (w .history)) in
+    let k = leb (w .trail .kept) (places (w .history)) in
+    let all = and-eq-true-iff (sound (w .machine) && n) k .0 s in
+    let both = and-eq-true-iff (sound (w .machine)) n .0 (all .0) in
+    start-ready w t fits (both .0) (ltb-true _ _ (both .1)) (leb-true _ _ (all .1))
+
+pub ready-fits : (w : World) → Ready w → buffersFit w ≡ true
+ready-fits w h =
+    and-both (and-both (eq-eqb _ _ (h .good .memory .size)) (eq-eqb _ _ (h .good .picture .size)))
+    (and-both (le-leb _ _ (h .least)) (le-leb _ _ (h .most)))
+
+pub ready-soundly : (w : World) → Ready w → soundly w ≡ true
+ready-soundly w h =
+    and-both (and-both (good-sound (w .machine) (h .good .machine)) (lt-ltb (w .trail .next) (places (w .history)) (h .next)))
+    (le-leb (w .trail .kept) (places (w .history)) (h .limit))
+
+-- ---- an accepted action
+
+pub next-below : (r n : ℕ) → n < r → nextPlace r n < r
+next-below r n h = by-test (λ (q : ℕ). q < r) (n + 1) r (λ e. omega arith) (λ e. omega arith)
+
+module _ (w : World) (h : Ready w) (c : Change) (b : Board) (f : Follows c (boardOf w) b) where
+  pub record-sized : length (recordOf (w .machine) c (w .memory) (w .picture)) ≡ 288
+  record-sized = written-length c (boardOf w) (h .good) (f .undoable .fits)
+
+  pub as-long : length (written c w) ≡ length (w .history)
+  as-long = over-length (w .history) _ (288 * w .trail .next) 288 (omega (arith, h .next)) record-sized
+
+  pub acted-ready : Ready (acted c b w)
+  acted-ready =
+      record {
+        good = f .good;
+        least = rw as-long (h .least);
+        most = rw as-long (h .most);
+        next = rw as-long (next-below (places (w .history)) (w .trail .next) (h .next));
+        limit = rw as-long
+            (by-test (λ (q : ℕ). q ≤ places (w .history)) (w .trail .kept) (places (w .history)) (λ e. omega arith) (λ e. omega (arith, h .limit)));
+      }
+
+module _ (w : World) (h : Ready w) where
+  pub step-passed : stepRefusal w ≡ 0 → (w .machine .pc ≤ 4094) × (refusalOf (opAt (boardOf w)) (w .machine) ≡ 0)
+  unfolding stepRefusal
+  step-passed e =
+      let second = passed (soundly w) 9 _ ((passed (buffersFit w) 8 _ e) .1) in
+      let third = passed (leb (w .machine .pc) 4094) 0 _ (second .1) in
+      (leb-true (w .machine .pc) 4094 (third .0), third .1)
+
+  pub stepped-follows : (keys random : ℕ) → stepRefusal w ≡ 0
+      → Follows (changeOf (opAt (boardOf w)) (w .machine)) (boardOf w) (stepBoard keys random (boardOf w))
+  stepped-follows keys random e =
+      let (pc, ok) = step-passed e in
+      step-follows (boardOf w) (h .good) (opAt (boardOf w)) keys random fits pc ok
+    where
+      byte : (a : ℕ) → getD (w .memory) a 0 < 256
+      byte a = below-get (omega arith) (h .good .memory .below) a
+
+      fits : OpFits (opAt (boardOf w))
+      fits = decode-fits _ _ (byte (w .machine .pc)) (byte (w .machine .pc + 1))
+
+  pub step-ready : (keys random : ℕ) → Ready ((step keys random w) .world)
+  unfolding step stepped
+  step-ready keys random =
+      by-test (λ (a : Answer). Ready (a .world)) (stepRefusal w) 0 (λ e. acted-ready w h _ _ (stepped-follows keys random e)) (λ e. h)
+
+  pub ticked-ready : Ready (ticked w)
+  unfolding ticked
+  ticked-ready = acted-ready w h Nothing (tickBoard (boardOf w)) (tick-follows (boardOf w) (h .good))
+
+pub ticks-ready : (n : ℕ) (w : World) → Ready w → Ready (tickedBy n w)
+ticks-ready zero w h = h
+ticks-ready (suc n) w h = ticks-ready n (ticked w) (ticked-ready w h)

@@ -1,0 +1,104 @@
+-- The worked cases of document 01 that are marked P: a table, and one statement that each of them holds.
+use mathlib.Core.Bool.{Bool, true, false, _&&_}
+use mathlib.Core.List.{List, [], _∷_, _++_}
+use Prim.Native.Nat.{ℕ}
+use lib.ListN.{length, replicate}
+use lib.Dec.{T, eqb}
+use Rattle.rules.specs.Number.{word}
+use Rattle.rules.specs.State.{memorySize, pictureSize, startAddress, fresh, reg, withReg, withI}
+use Rattle.rules.specs.Instruction.{decode}
+use Rattle.rules.specs.Picture.{drawn, darkened}
+use Rattle.rules.specs.Memory.{part, over}
+use Rattle.rules.specs.Record.{placeSize}
+use Rattle.rules.specs.Step.{Board, refusalOf, changeOf, after}
+use Rattle.rules.specs.World.{World, world, boardOf}
+use Rattle.rules.specs.Load.{freshTrail}
+use Rattle.rules.specs.Call.{step, stepRefusal, stepped}
+
+-- a fact of a board: VX is a byte, I is an address, memory has bytes from an address on, the picture is those bytes
+data Fact : Type 0 where
+  v : ℕ → ℕ → Fact
+  i : ℕ → Fact
+  bytes : ℕ → List ℕ → Fact
+  shows : List ℕ → Fact
+
+-- a step: the instruction, the refusal or 0, what holds before it, and what holds after it
+data Case : Type 0 where
+  case : ℕ → ℕ → List Fact → List Fact → Case
+
+-- all dark but the last spot
+abbrev lastSpot : List ℕ
+lastSpot = replicate 255 0x00 ++ (0x01 ∷ [])
+
+table : List Case
+table =
+    case 0x7002 0 (v 0x0 0xFF ∷ v 0xF 0x07 ∷ []) (v 0x0 0x01 ∷ v 0xF 0x07 ∷ [])
+    ∷ case 0x8014 0 (v 0x0 0xF0 ∷ v 0x1 0x20 ∷ []) (v 0x0 0x10 ∷ v 0xF 0x01 ∷ [])
+    ∷ case 0x8F14 0 (v 0xF 0xF0 ∷ v 0x1 0x20 ∷ []) (v 0xF 0x01 ∷ [])
+    ∷ case 0x8015 0 (v 0x0 0x05 ∷ v 0x1 0x05 ∷ []) (v 0x0 0x00 ∷ v 0xF 0x01 ∷ [])
+    ∷ case 0x8015 0 (v 0x0 0x04 ∷ v 0x1 0x05 ∷ v 0xF 0x07 ∷ []) (v 0x0 0xFF ∷ v 0xF 0x00 ∷ [])
+    ∷ case 0xFF1E 0 (i 0xFFFF ∷ v 0xF 0x02 ∷ []) (i 0x0001 ∷ v 0xF 0x02 ∷ [])
+    ∷ case 0xF029 0 (v 0x0 0x1F ∷ []) (i 0x004B ∷ [])
+    ∷ case 0xF033 0 (v 0x0 0xFE ∷ i 0x0FFD ∷ []) (bytes 0x0FFD (2 ∷ 5 ∷ 4 ∷ []) ∷ [])
+    ∷ case 0xF033 6 (v 0x0 0xFE ∷ i 0x0FFE ∷ []) []
+    ∷ case 0xF155 0 (i 0x0FFE ∷ []) (i 0x1000 ∷ [])
+    ∷ case 0xF155 6 (i 0x0FFF ∷ []) []
+    ∷ case 0xD012 0 (v 0x0 0x3F ∷ v 0x1 0x1F ∷ v 0xF 0x07 ∷ i 0x0300 ∷ bytes 0x0300 (0xFF ∷ 0xFF ∷ []) ∷ []) (shows lastSpot ∷ v 0xF 0x00 ∷ [])
+    ∷ []
+
+-- ---- how a row is read
+
+-- the board of a load, with nothing in memory but the instruction
+abbrev bare : ℕ → Board
+bare op =
+    record {
+      machine = fresh;
+      memory = over (replicate memorySize 0) startAddress (word op) 2;
+      picture = replicate pictureSize 0;
+    }
+
+-- a board with a fact made true, and whether a fact is true of it
+abbrev made : Fact → Board → Board
+made (v x n) b = record { machine = withReg x n (b .machine); memory = b .memory; picture = b .picture }
+made (i a) b = record { machine = withI a (b .machine); memory = b .memory; picture = b .picture }
+made (bytes a l) b = record { machine = b .machine; memory = over (b .memory) a l (length l); picture = b .picture }
+made (shows l) b = record { machine = b .machine; memory = b .memory; picture = l }
+
+abbrev same : List ℕ → List ℕ → Bool
+same [] [] = true
+same [] (y ∷ ys) = false
+same (x ∷ xs) [] = false
+same (x ∷ xs) (y ∷ ys) = eqb x y && same xs ys
+
+abbrev isTrue : Fact → Board → Bool
+isTrue (v x n) b = eqb (reg (b .machine) x) n
+isTrue (i a) b = eqb (b .machine .i) a
+isTrue (bytes a l) b = same (part (b .memory) a (length l)) l
+isTrue (shows l) b = same (b .picture) l
+
+abbrev allMade : List Fact → Board → Board
+allMade [] b = b
+allMade (f ∷ fs) b = allMade fs (made f b)
+
+abbrev allTrue : List Fact → Board → Bool
+allTrue [] b = true
+allTrue (f ∷ fs) b = isTrue f b && allTrue fs b
+
+-- beside a history of one place
+abbrev worldOf : Board → World
+worldOf b = world (b .machine) freshTrail (b .memory) (b .picture) (replicate placeSize 0)
+
+abbrev holds : Case → Bool
+holds (case op refusal before then) =
+    let a = step 0 0 (worldOf (allMade before (bare op))) in
+    eqb (a .refusal) refusal && allTrue then (boardOf (a .world))
+
+abbrev every : List Case → Bool
+every [] = true
+every (c ∷ cs) = holds c && every cs
+
+-- ---- THE CASES HOLD
+
+cases : T (every table)
+unfolding table decode drawn darkened refusalOf changeOf after step stepRefusal stepped
+cases = tt

@@ -1,0 +1,58 @@
+-- A load: it takes a program and the three buffers, and no state or numbers.
+use mathlib.Core.Bool.{_&&_}
+use mathlib.Core.List.{List, [], _∷_, _++_}
+use Prim.Native.Nat.{ℕ, _-_}
+use lib.ListN.{length, replicate}
+use lib.Dec.{leb}
+use Rattle.rules.specs.declared.Refusal.the-variants.{ProgramLength, BufferLength}
+use Rattle.rules.specs.declared.Trail.{Trail}
+use Rattle.rules.specs.Number.{unless}
+use Rattle.rules.specs.Refusal.{numberOf}
+use Rattle.rules.specs.State.{memorySize, pictureSize, startAddress, fresh}
+use Rattle.rules.specs.World.{World, Answer, world, buffersFit, answered}
+
+-- the digits 0 to F, five bytes each
+abbrev pub digits : List ℕ
+digits =
+    0xF0 ∷ 0x90 ∷ 0x90 ∷ 0x90 ∷ 0xF0
+    ∷ 0x60 ∷ 0x20 ∷ 0x20 ∷ 0x20 ∷ 0x70
+    ∷ 0xF0 ∷ 0x10 ∷ 0xF0 ∷ 0x80 ∷ 0xF0
+    ∷ 0xF0 ∷ 0x10 ∷ 0xF0 ∷ 0x10 ∷ 0xF0
+    ∷ 0xA0 ∷ 0xA0 ∷ 0xF0 ∷ 0x20 ∷ 0x20
+    ∷ 0xF0 ∷ 0x80 ∷ 0xF0 ∷ 0x10 ∷ 0xF0
+    ∷ 0xF0 ∷ 0x80 ∷ 0xF0 ∷ 0x90 ∷ 0xF0
+    ∷ 0xF0 ∷ 0x10 ∷ 0x10 ∷ 0x10 ∷ 0x10
+    ∷ 0xF0 ∷ 0x90 ∷ 0xF0 ∷ 0x90 ∷ 0xF0
+    ∷ 0xF0 ∷ 0x90 ∷ 0xF0 ∷ 0x10 ∷ 0xF0
+    ∷ 0xF0 ∷ 0x90 ∷ 0xF0 ∷ 0x90 ∷ 0x90
+    ∷ 0xF0 ∷ 0x50 ∷ 0x70 ∷ 0x50 ∷ 0xF0
+    ∷ 0xF0 ∷ 0x80 ∷ 0x80 ∷ 0x80 ∷ 0xF0
+    ∷ 0xF0 ∷ 0x50 ∷ 0x50 ∷ 0x50 ∷ 0xF0
+    ∷ 0xF0 ∷ 0x80 ∷ 0xF0 ∷ 0x80 ∷ 0xF0
+    ∷ 0xF0 ∷ 0x80 ∷ 0xF0 ∷ 0x80 ∷ 0x80
+    ∷ []
+
+unfoldable pub loadedMemory : List ℕ → List ℕ
+loadedMemory program = digits ++ replicate (startAddress - 80) 0 ++ program ++ replicate (memorySize - startAddress - length program) 0
+
+-- what every load hands back, accepted or not, beside the buffers
+abbrev pub freshTrail : Trail
+freshTrail = record { next = 0; kept = 0 }
+
+abbrev pub freshWorld : List ℕ → List ℕ → List ℕ → World
+freshWorld memory picture history = world fresh freshTrail memory picture history
+
+abbrev pub loaded : List ℕ → List ℕ → World
+loaded program history = freshWorld (loadedMemory program) (replicate pictureSize 0) (replicate (length history) 0)
+
+-- 9, then 8
+unfoldable pub loadRefusal : List ℕ → World → ℕ
+loadRefusal program w =
+    unless (buffersFit w) (numberOf BufferLength)
+    (unless (leb 1 (length program) && leb (length program) (memorySize - startAddress)) (numberOf ProgramLength)
+    0)
+
+unfoldable pub load : List ℕ → List ℕ → List ℕ → List ℕ → Answer
+load program memory picture history =
+    let w = freshWorld memory picture history in
+    answered (loadRefusal program w) (loaded program history) w

@@ -1,0 +1,22 @@
+-- Choices, numbers of two bytes, and bits.
+use mathlib.Core.Bool.{Bool, true, false}
+use mathlib.Core.List.{List, [], _∷_}
+use Prim.Native.Nat.{ℕ, _/_, _%_, _^_}
+
+-- a where the test holds, and else b
+abbrev pub pick : {A : Type 0} → Bool → A → A → A
+pick true a b = a
+pick false a b = b
+
+-- a refusal number unless the test holds, and else what the later tests say
+abbrev pub unless : Bool → ℕ → ℕ → ℕ
+unless true refusal later = later
+unless false refusal later = refusal
+
+-- a number of two bytes, the high one first
+abbrev pub word : ℕ → List ℕ
+word n = n / 256 % 256 ∷ n % 256 ∷ []
+
+-- bit b of n, counted from the lowest
+abbrev pub bit : ℕ → ℕ → ℕ
+bit b n = n / 2 ^ b % 2

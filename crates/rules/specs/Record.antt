@@ -1,0 +1,172 @@
+-- The history record: 288 bytes that keep what stood before an action.
+use mathlib.Core.Bool.{Bool, true, not, _&&_, _||_}
+use mathlib.Core.List.{List, [], _∷_, _++_}
+use Prim.Native.Nat.{ℕ, _+_, _-_, _*_}
+use lib.ListN.{getD, set, take, replicate}
+use lib.Dec.{eqb, leb}
+use Rattle.rules.specs.declared.Machine.{Machine}
+use Rattle.rules.specs.declared.Wait.{Wait}
+use Rattle.rules.specs.declared.Wait.the-variants.{Idle, Held}
+use Rattle.rules.specs.declared.Change.{Change}
+use Rattle.rules.specs.declared.Change.the-variants.{Nothing, InMemory, InPicture}
+use Rattle.rules.specs.Number.{pick, word}
+use Rattle.rules.specs.State.{memorySize, pictureSize, stackSize}
+use Rattle.rules.specs.Memory.{part, over}
+
+abbrev pub placeSize : ℕ
+placeSize = 288
+
+-- ---- the table of offsets
+
+abbrev pub atMark : ℕ
+atMark = 0
+
+abbrev pub atV : ℕ
+atV = 2
+
+abbrev pub atI : ℕ
+atI = 18
+
+abbrev pub atPc : ℕ
+atPc = 20
+
+abbrev pub atDepth : ℕ
+atDepth = 22
+
+abbrev pub atLast : ℕ
+atLast = 23
+
+abbrev pub atDelay : ℕ
+atDelay = 25
+
+abbrev pub atTone : ℕ
+atTone = 26
+
+abbrev pub atHeld : ℕ
+atHeld = 27
+
+abbrev pub atStart : ℕ
+atStart = 28
+
+abbrev pub atCount : ℕ
+atCount = 30
+
+abbrev pub atOld : ℕ
+atOld = 32
+
+-- ---- a change
+
+abbrev pub mark : Change → List ℕ
+mark Nothing = 0x4E ∷ 0x4F ∷ []
+mark (InMemory s n) = 0x4D ∷ 0x45 ∷ []
+mark (InPicture s n) = 0x44 ∷ 0x49 ∷ []
+
+abbrev pub start : Change → ℕ
+start Nothing = 0
+start (InMemory s n) = s
+start (InPicture s n) = s
+
+abbrev pub count : Change → ℕ
+count Nothing = 0
+count (InMemory s n) = n
+count (InPicture s n) = n
+
+-- at most 16 bytes, all of them in memory, or at most the whole picture
+abbrev pub allowed : Change → Bool
+allowed Nothing = true
+allowed (InMemory s n) = leb 1 n && leb n 16 && leb (s + n) memorySize
+allowed (InPicture s n) = leb 1 n && leb n pictureSize && leb (s + n) pictureSize
+
+-- the bytes that are about to change
+abbrev pub old : Change → List ℕ → List ℕ → List ℕ
+old Nothing memory picture = []
+old (InMemory s n) memory picture = part memory s n
+old (InPicture s n) memory picture = part picture s n
+
+-- ---- writing one
+
+abbrev pub lastReturn : Machine → ℕ
+lastReturn m = pick (eqb (m .depth) 0) 0 (getD (m .stack) (m .depth - 1) 0)
+
+abbrev pub heldByte : Wait → ℕ
+heldByte Idle = 0xFF
+heldByte (Held k) = k
+
+-- what follows the registers
+abbrev pub fields : Machine → Change → List ℕ
+fields m c =
+    word (m .i) ++ word (m .pc) ++ (m .depth ∷ []) ++ word (lastReturn m)
+    ++ (m .timers .delay ∷ m .timers .tone ∷ heldByte (m .wait) ∷ []) ++ word (start c) ++ word (count c)
+
+-- with the bytes that are about to change
+abbrev pub recordWith : Machine → Change → List ℕ → List ℕ
+recordWith m c bytes = mark c ++ m .v ++ fields m c ++ bytes ++ replicate (placeSize - atOld - count c) 0
+
+abbrev pub recordOf : Machine → Change → List ℕ → List ℕ → List ℕ
+recordOf m c memory picture = recordWith m c (old c memory picture)
+
+-- ---- reading one
+
+abbrev pub byteAt : List ℕ → ℕ → ℕ
+byteAt r n = getD r n 0
+
+abbrev pub wordAt : List ℕ → ℕ → ℕ
+wordAt r n = 256 * byteAt r n + byteAt r (n + 1)
+
+abbrev pub marked : List ℕ → ℕ → ℕ → Bool
+marked r a b = eqb (byteAt r atMark) a && eqb (byteAt r (atMark + 1)) b
+
+abbrev pub changeAt : List ℕ → Change
+changeAt r =
+    pick (marked r 0x4D 0x45) (InMemory (wordAt r atStart) (wordAt r atCount))
+    (pick (marked r 0x44 0x49) (InPicture (wordAt r atStart) (wordAt r atCount))
+    Nothing)
+
+-- its mark is known, and where it is NO the start and the count are 0
+abbrev pub known : List ℕ → Bool
+known r = marked r 0x4D 0x45 || marked r 0x44 0x49 || (marked r 0x4E 0x4F && eqb (wordAt r atStart) 0 && eqb (wordAt r atCount) 0)
+
+-- its start and count are what the mark allows
+abbrev pub changeSound : List ℕ → Bool
+changeSound r = known r && allowed (changeAt r)
+
+abbrev pub depthSound : List ℕ → ℕ → Bool
+depthSound r present =
+    leb (byteAt r atDepth) stackSize && leb (byteAt r atDepth) (present + 1) && leb present (byteAt r atDepth + 1)
+    && (not (eqb (byteAt r atDepth) 0) || eqb (wordAt r atLast) 0)
+
+abbrev pub keySound : List ℕ → Bool
+keySound r = leb (byteAt r atHeld) 15 || eqb (byteAt r atHeld) 0xFF
+
+-- beside a state of that depth
+abbrev pub damaged : List ℕ → ℕ → Bool
+damaged r present = not (changeSound r && depthSound r present && keySound r)
+
+abbrev pub waitAt : List ℕ → Wait
+waitAt r = pick (eqb (byteAt r atHeld) 0xFF) Idle (Held (byteAt r atHeld))
+
+-- the old depth, its last return address put back, and nothing at or above it
+abbrev pub stackAt : List ℕ → List ℕ → List ℕ
+stackAt r stack = take (byteAt r atDepth) (set stack (byteAt r atDepth - 1) (wordAt r atLast)) ++ replicate (stackSize - byteAt r atDepth) 0
+
+abbrev pub machineAt : List ℕ → Machine → Machine
+machineAt r m =
+    record {
+      v = part r atV 16;
+      i = wordAt r atI;
+      pc = wordAt r atPc;
+      stack = stackAt r (m .stack);
+      depth = byteAt r atDepth;
+      timers = record { delay = byteAt r atDelay; tone = byteAt r atTone };
+      wait = waitAt r;
+    }
+
+abbrev pub memoryAt : Change → List ℕ → List ℕ → List ℕ
+memoryAt Nothing r memory = memory
+memoryAt (InMemory s n) r memory = over memory s (part r atOld n) n
+memoryAt (InPicture s n) r memory = memory
+
+abbrev pub pictureAt : Change → List ℕ → List ℕ → List ℕ
+pictureAt Nothing r picture = picture
+pictureAt (InMemory s n) r picture = picture
+pictureAt (InPicture s n) r picture = over picture s (part r atOld n) n

@@ -1,0 +1,127 @@
+// The types that the rules of the card speak of. What the rules say is in specs/, read in the order of its Lib.antt.
+ghost use mathlib.Core.Path.{_≡_};
+ghost use Rattle.rules.specs.State as state;
+
+// The delay timer and the tone timer.
+pub struct Timers {
+    pub delay: u8,
+    pub tone: u8,
+}
+
+// What FX0A waits for: no key yet, or the release of the key that is held.
+pub enum Wait {
+    Idle,
+    Held(u8),
+}
+
+// The machine's state.
+pub struct Machine {
+    pub v: [u8; 16],
+    pub i: u16,
+    pub pc: u16,
+    pub stack: [u16; 12],
+    pub depth: u8,
+    pub timers: Timers,
+    pub wait: Wait,
+}
+
+impl Machine {
+    // The bytes of memory, the bytes of the picture, the entries of the stack, and the address that a program is loaded at.
+    pub const MEMORY: usize = 4096;
+
+    pub const PICTURE: usize = 256;
+
+    pub const STACK: usize = 12;
+
+    pub const START: usize = 512;
+
+    // The state after a load.
+    pub fn fresh() -> Machine
+        ensures { λ r. ⌜ r ≡ state.fresh ⌝ }
+    {
+        Machine {
+            v: [0; 16],
+            i: 0,
+            pc: Machine::START as u16,
+            stack: [0; 12],
+            depth: 0,
+            timers: Timers { delay: 0, tone: 0 },
+            wait: Wait::Idle,
+        }
+    }
+}
+
+// The two numbers that go with a history: the place to write next, and how many places are kept.
+pub struct Trail {
+    pub next: usize,
+    pub kept: usize,
+}
+
+// What an action changes besides the state: nothing, or memory or the picture, from a start on so many bytes.
+pub enum Change {
+    Nothing,
+    InMemory(u16, u16),
+    InPicture(u16, u16),
+}
+
+// An instruction that reads and changes the state alone, and is never refused. A register is named by its number, below 16.
+pub enum Simple {
+    Jump(u16),
+    JumpFrom(u16),
+    SkipEqual(u8, u8),
+    SkipDiffers(u8, u8),
+    SkipSame(u8, u8),
+    SkipOther(u8, u8),
+    SkipDown(u8),
+    SkipUp(u8),
+    Put(u8, u8),
+    Add(u8, u8),
+    Chance(u8, u8),
+    Copy(u8, u8),
+    Or(u8, u8),
+    And(u8, u8),
+    Plus(u8, u8),
+    Minus(u8, u8),
+    Index(u16),
+    AddIndex(u8),
+    Digit(u8),
+    FromDelay(u8),
+    ToDelay(u8),
+    ToTone(u8),
+}
+
+// An instruction, taken apart. The last two are what no rule lists: an unlisted instruction, and a call into machine language.
+pub enum Op {
+    Plain(Simple),
+    AwaitKey(u8),
+    Call(u16),
+    Return,
+    Clear,
+    Draw(u8, u8, u8),
+    Decimal(u8),
+    Store(u8),
+    Fetch(u8),
+    Unlisted,
+    MachineCode,
+}
+
+// Why a call is refused, in the order of the refusal numbers, 1 to 11.
+pub enum Refusal {
+    PcPastEnd,
+    Unlisted,
+    MachineCode,
+    StackFull,
+    StackEmpty,
+    MemoryPastEnd,
+    NothingKept,
+    ProgramLength,
+    BufferLength,
+    Unsound,
+    Damaged,
+}
+
+// What came of a call.
+pub enum Outcome {
+    Done,
+    Refused(Refusal),
+}
