@@ -2,7 +2,7 @@
 ghost use mathlib.Core.Path.{_≡_};
 ghost use Prim.Native.Nat.{_≤_, _<_, _%_, _+_, _-_};
 ghost use Rattle.rules.specs.Number.{pick};
-ghost use Rattle.rules.specs.State.{reg, withReg, withPc, withI, withTimers, withWait};
+ghost use Rattle.rules.specs.State.{reg, upTo, withReg, withPc, withI, withTimers, withWait};
 ghost use Rattle.rules.specs.Registers as state;
 ghost use Rattle.rules.specs.declared.Wait.the-variants.{Idle};
 use rules::Machine;
@@ -13,7 +13,7 @@ use rules::Wait;
 // ---- numbers
 
 // 1 where the test holds, and else 0
-fn flag(test: bool) -> u8
+pub fn flag(test: bool) -> u8
     ensures { λ r. ⌜ r ≡ pick test 1 0 ⌝ }
 {
     if test { 1 } else { 0 }
@@ -36,10 +36,17 @@ fn down(keys: u16, k: u8) -> bool
 // ---- a part of the machine read, and a part changed
 
 // VX
-fn get(m: Machine, x: u8) -> u8
+pub fn get(m: Machine, x: u8) -> u8
     ensures { λ r. ⌜ r ≡ reg m x ⌝ }
 {
     m.v[(x % 16) as usize]
+}
+
+// How many registers V0 to VX are.
+pub fn up_to(x: u8) -> usize
+    ensures { λ r. ⌜ r ≡ upTo x ⌝ }
+{
+    (x % 16) as usize + 1
 }
 
 // the result to VX, and on

@@ -1,0 +1,2 @@
+-- What an instruction that is not refused has.
+pub mod Laws

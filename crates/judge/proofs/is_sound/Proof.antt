@@ -1,0 +1,14 @@
+-- A depth above 12 is the first test that fails; else the other two are the callees'.
+use borrow.Author.Needs.{needs}
+use borrow.Author.Tests.{le-leb, lt-leb}
+use Rattle.judge.proofs.is_sound.Statement.{statement}
+use Rattle.judge.proofs.is_sound.Tie as tie
+
+returns : tie.Need-returns
+returns c = rw (lt-leb _ _ (c .if1 .taken))
+
+returns-2 : tie.Need-returns-2
+returns-2 c = rw (c .before .clear-from .ensures, c .held-sound .ensures, le-leb _ _ (c .before .before .before .if1 .left))
+
+pub is-sound-spec : {M : Type 1} → statement M
+is-sound-spec = tie.close (tie.spec (λ c. search needs) returns (λ c κs. search needs) (λ c κs. search needs) returns-2)

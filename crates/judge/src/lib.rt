@@ -1,0 +1,145 @@
+// What is tested before anything is written: lengths, soundness, and what the instruction needs.
+ghost use mathlib.Core.Path.{_≡_};
+ghost use mathlib.Core.Bool.{_&&_};
+ghost use Prim.Native.Nat.{_≤_};
+ghost use lib.ListN.{drop};
+ghost use Rattle.rules.specs.declared.Refusal.the-variants.{BufferLength, Unsound};
+ghost use Rattle.rules.specs.Number.{unless};
+ghost use Rattle.rules.specs.Refusal.{numberOf, number};
+ghost use Rattle.rules.specs.State as state;
+ghost use Rattle.rules.specs.Step as rule;
+ghost use Rattle.rules.specs.World as fit;
+use rules::Machine;
+use rules::Op;
+use rules::Outcome;
+use rules::Refusal;
+use rules::Trail;
+use rules::Wait;
+
+// ---- the tests 9 and 10
+
+// R
+pub fn places(history: &[u8]) -> usize
+    ensures { λ r. ⌜ r ≡ fit.places (now (history .entry)) ⌝ }
+{
+    history.len() / history::PLACE
+}
+
+pub fn history_fits(history: &[u8]) -> bool
+    ensures { λ r. ⌜ r ≡ fit.historyFits (now (history .entry)) ⌝ }
+{
+    (history::PLACE <= history.len()) & (history.len() <= 65536)
+}
+
+pub fn sizes_fit(memory: &[u8], picture: &[u8], history: &[u8]) -> bool
+    ensures { λ r. ⌜ r ≡ fit.sizesFit (now (memory .entry)) (now (picture .entry)) (now (history .entry)) ⌝ }
+{
+    (memory.len() == Machine::MEMORY) & (picture.len() == Machine::PICTURE) & history_fits(history)
+}
+
+fn held_sound(wait: Wait) -> bool
+    ensures { λ r. ⌜ r ≡ state.heldSound wait ⌝ }
+{
+    match wait {
+        Wait::Idle => true,
+        Wait::Held(k) => k <= 15,
+    }
+}
+
+// Whether the stack is clear from `at` on.
+fn clear_from(stack: [u16; 12], at: usize) -> bool
+    requires { ⌜ at ≤ 12 ⌝ }
+    ensures { λ r. ⌜ r ≡ state.zeros (drop at stack) ⌝ }
+{
+    let mut k = at;
+    while k < Machine::STACK {
+        if stack[k] != 0 {
+            return false;
+        }
+        k += 1;
+    }
+    true
+}
+
+pub fn is_sound(m: Machine) -> bool
+    ensures { λ r. ⌜ r ≡ state.sound m ⌝ }
+{
+    let depth = m.depth as usize;
+    if Machine::STACK < depth {
+        return false;
+    }
+    let stack = m.stack;
+    let wait = m.wait;
+    clear_from(stack, depth) & held_sound(wait)
+}
+
+pub fn trail_fits(t: Trail, history: &[u8]) -> bool
+    ensures { λ r. ⌜ r ≡ fit.trailFits t (now (history .entry)) ⌝ }
+{
+    let places = places(history);
+    (t.next < places) & (t.kept <= places)
+}
+
+pub fn soundly(m: Machine, t: Trail, history: &[u8]) -> bool
+    ensures { λ r. ⌜ r ≡ (state.sound m && fit.trailFits t (now (history .entry))) ⌝ }
+{
+    is_sound(m) & trail_fits(t, history)
+}
+
+// 9, then 10.
+pub fn admitted(fits: bool, sound: bool) -> Outcome
+    ensures { λ r. ⌜ number r ≡ unless fits (numberOf BufferLength) (unless sound (numberOf Unsound) 0) ⌝ }
+{
+    if !fits {
+        return Outcome::Refused(Refusal::BufferLength);
+    }
+    if !sound {
+        return Outcome::Refused(Refusal::Unsound);
+    }
+    Outcome::Done
+}
+
+// ---- what the instruction needs
+
+// Whether the n bytes from I on are in memory.
+fn past(m: Machine, n: usize) -> Outcome
+    requires { ⌜ n ≤ 256 ⌝ }
+    ensures { λ r. ⌜ number r ≡ rule.past m n ⌝ }
+{
+    if n == 0 {
+        return Outcome::Done;
+    }
+    if m.i as usize + n <= Machine::MEMORY {
+        return Outcome::Done;
+    }
+    Outcome::Refused(Refusal::MemoryPastEnd)
+}
+
+// 2 or 3, then 4, 5 or 6.
+pub fn judged(op: Op, m: Machine) -> Outcome
+    ensures { λ r. ⌜ number r ≡ rule.refusalOf op m ⌝ }
+{
+    match op {
+        Op::Plain(_) => Outcome::Done,
+        Op::AwaitKey(_) => Outcome::Done,
+        Op::Call(_) => {
+            if (m.depth as usize) < Machine::STACK {
+                return Outcome::Done;
+            }
+            Outcome::Refused(Refusal::StackFull)
+        }
+        Op::Return => {
+            if 0 < m.depth {
+                return Outcome::Done;
+            }
+            Outcome::Refused(Refusal::StackEmpty)
+        }
+        Op::Clear => Outcome::Done,
+        Op::Draw(_, _, n) => past(m, n as usize),
+        Op::Decimal(_) => past(m, 3),
+        Op::Store(x) => past(m, registers::up_to(x)),
+        Op::Fetch(x) => past(m, registers::up_to(x)),
+        Op::Unlisted => Outcome::Refused(Refusal::Unlisted),
+        Op::MachineCode => Outcome::Refused(Refusal::MachineCode),
+    }
+}
