@@ -9,6 +9,7 @@ ghost use Rattle.rules.specs.Refusal.{numberOf, number};
 ghost use Rattle.rules.specs.State as state;
 ghost use Rattle.rules.specs.Step as rule;
 ghost use Rattle.rules.specs.World as fit;
+ghost use Rattle.rules.specs.Typed.{Below, TypedMachine};
 use rules::Machine;
 use rules::Op;
 use rules::Outcome;
@@ -31,8 +32,10 @@ pub fn history_fits(history: &[u8]) -> bool
     (history::PLACE <= history.len()) & (history.len() <= 65536)
 }
 
+// It also tells what the types say of the bytes that are lent, which the rules' theorems ask for.
 pub fn sizes_fit(memory: &[u8], picture: &[u8], history: &[u8]) -> bool
     ensures { λ r. ⌜ r ≡ fit.sizesFit (now (memory .entry)) (now (picture .entry)) (now (history .entry)) ⌝ }
+    ensures { λ r. ⌜ Below 256 (now (memory .entry)) × Below 256 (now (picture .entry)) ⌝ }
 {
     (memory.len() == Machine::MEMORY) & (picture.len() == Machine::PICTURE) & history_fits(history)
 }
@@ -80,8 +83,10 @@ pub fn trail_fits(t: Trail, history: &[u8]) -> bool
     (t.next < places) & (t.kept <= places)
 }
 
+// It also tells what the types say of the state's numbers.
 pub fn soundly(m: Machine, t: Trail, history: &[u8]) -> bool
     ensures { λ r. ⌜ r ≡ (state.sound m && fit.trailFits t (now (history .entry))) ⌝ }
+    ensures { λ r. ⌜ TypedMachine m ⌝ }
 {
     is_sound(m) & trail_fits(t, history)
 }

@@ -60,6 +60,7 @@ module _ (m : Machine) (c : Change) (old : List ℕ) (sixteen : length (m .v) �
   front = rw (length-append, mark-two c, sixteen)
 
   split : recordWith m c old ≡ mark c ++ m .v ++ (fields m c ++ rest)
+  unfolding recordWith
   split = regroup (mark c ++ m .v) (fields m c) old (replicate (256 - count c) 0)
 
   pub record-length : length old ≡ count c → count c ≤ 256 → length (recordWith m c old) ≡ 288
@@ -73,6 +74,7 @@ module _ (m : Machine) (c : Change) (old : List ℕ) (sixteen : length (m .v) �
   v-back = ap (λ (r : List ℕ). part r 2 16) split ∙ middle (mark c) (m .v) (fields m c ++ rest) 2 16 (mark-two c) sixteen
 
   old-back : length old ≡ count c → part (recordWith m c old) 32 (count c) ≡ old
+  unfolding recordWith
   old-back =
       middle (mark c ++ m .v ++ fields m c) old (replicate (256 - count c) 0) 32 (count c)
       (length-append (mark c ++ m .v) (fields m c) ∙ ap (λ (n : ℕ). n + 14) front)
@@ -85,11 +87,13 @@ module _ (m : Machine) (c : Change) (old : List ℕ) (sixteen : length (m .v) �
 
 module _ (m : Machine) (old : List ℕ) (e : length (m .v) ≡ 16) where
   change-back : (c : Change) → start c < 65536 → count c < 65536 → changeAt (recordWith m c old) ≡ c
+  unfolding recordWith
   change-back Nothing s n = refl
   change-back (InMemory a k) s n = ap₂ InMemory (start-back m (InMemory a k) old e s) (count-back m (InMemory a k) old e n)
   change-back (InPicture a k) s n = ap₂ InPicture (start-back m (InPicture a k) old e s) (count-back m (InPicture a k) old e n)
 
   known-back : (c : Change) → known (recordWith m c old) ≡ true
+  unfolding recordWith
   known-back Nothing = rw (start-back m Nothing old e (omega arith), count-back m Nothing old e (omega arith))
   known-back (InMemory a k) = refl
   known-back (InPicture a k) = refl

@@ -99,7 +99,7 @@ fields m c =
     ++ (m .timers .delay ∷ m .timers .tone ∷ heldByte (m .wait) ∷ []) ++ word (start c) ++ word (count c)
 
 -- with the bytes that are about to change
-abbrev pub recordWith : Machine → Change → List ℕ → List ℕ
+unfoldable pub recordWith : Machine → Change → List ℕ → List ℕ
 recordWith m c bytes = mark c ++ m .v ++ fields m c ++ bytes ++ replicate (placeSize - atOld - count c) 0
 
 abbrev pub recordOf : Machine → Change → List ℕ → List ℕ → List ℕ

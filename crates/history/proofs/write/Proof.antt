@@ -4,7 +4,7 @@ use mathlib.Core.List.{List, [], _++_}
 use Prim.Native.Nat.{ℕ, _+_, _-_}
 use native.Mathlib.Omega.{arith}
 use lib.ListN.{length, replicate}
-use Rattle.rules.specs.Record.{count}
+use Rattle.rules.specs.Record.{count, recordWith}
 use Rattle.rules.proofs.Laid.{behind}
 use Rattle.rules.proofs.Back.{mark-two}
 use borrow.Author.Needs.{needs}
@@ -18,6 +18,7 @@ lay-requires-2 : tie.Need-lay-requires-2
 lay-requires-2 c κs = omega (arith, sixteen (c .before .before .before .before .before .before .before .before .before .before .before .before))
 
 returns : tie.Need-returns
+unfolding recordWith
 returns c =
     let clear = c .before .before in
     let fourth = clear .before .before .before .before in

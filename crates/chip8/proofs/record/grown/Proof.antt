@@ -1,0 +1,7 @@
+-- Each of the two numbers is its callee's.
+use borrow.Author.Needs.{needs}
+use Rattle.chip8.proofs.record.grown.Statement.{statement}
+use Rattle.chip8.proofs.record.grown.Tie as tie
+
+pub grown-spec : {M : Type 1} → statement M
+grown-spec = tie.close (tie.spec (search needs) (search needs) (λ c. cc))

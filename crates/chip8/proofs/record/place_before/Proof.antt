@@ -1,0 +1,9 @@
+-- Each way out has the test that led there.
+use borrow.Author.Needs.{needs}
+use borrow.Author.Tests.{eq-eqb, ne-eqb}
+use Rattle.chip8.proofs.record.place_before.Statement.{statement}
+use Rattle.chip8.proofs.record.place_before.Tie as tie
+
+pub place-before-spec : {M : Type 1} → statement M
+place-before-spec =
+    tie.close (tie.spec (search needs) (search needs) (λ c. rw (eq-eqb _ _ (c .if1 .taken))) (λ c. rw (ne-eqb _ _ (c .if1 .left))))
