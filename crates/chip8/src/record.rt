@@ -61,7 +61,7 @@ pub fn grown(t: Trail, places: usize) -> Trail
 // Next falls by one, 0 becoming R - 1.
 pub fn place_before(next: usize, places: usize) -> usize
     requires { ⌜ next < places ⌝ }
-    ensures { λ r. ⌜ r ≡ rule.placeBefore places next ⌝ }
+    ensures { λ r. ⌜ (r ≡ rule.placeBefore places next) × (r < places) ⌝ }
 {
     if next == 0 { places - 1 } else { next - 1 }
 }

@@ -9,7 +9,10 @@ ghost use Rattle.rules.specs.Refusal.{numberOf, number};
 ghost use Rattle.rules.specs.State as state;
 ghost use Rattle.rules.specs.Step as rule;
 ghost use Rattle.rules.specs.World as fit;
+ghost use Rattle.rules.specs.World.{world};
 ghost use Rattle.rules.specs.Typed.{Below, TypedMachine};
+ghost use Rattle.rules.specs.declared.Outcome.the-variants.{Done};
+ghost use Rattle.rules.proofs.Ready.{Ready};
 use rules::Machine;
 use rules::Op;
 use rules::Outcome;
@@ -92,7 +95,7 @@ pub fn soundly(m: Machine, t: Trail, history: &[u8]) -> bool
 }
 
 // 9, then 10.
-pub fn admitted(fits: bool, sound: bool) -> Outcome
+pub fn tested(fits: bool, sound: bool) -> Outcome
     ensures { λ r. ⌜ number r ≡ unless fits (numberOf BufferLength) (unless sound (numberOf Unsound) 0) ⌝ }
 {
     if !fits {
@@ -102,6 +105,22 @@ pub fn admitted(fits: bool, sound: bool) -> Outcome
         return Outcome::Refused(Refusal::Unsound);
     }
     Outcome::Done
+}
+
+// 9, then 10, of a world and whatever lists come with it. A world that passes is ready for anything.
+pub fn admitted(
+    m: Machine,
+    t: Trail,
+    memory: &[u8],
+    picture: &[u8],
+    history: &[u8],
+    lists: bool,
+) -> Outcome
+    ensures { λ r. ⌜ number r ≡ unless (fit.buffersFit (world m t (now (memory .entry)) (now (picture .entry)) (now (history .entry))) && lists) (numberOf BufferLength) (unless (fit.soundly (world m t (now (memory .entry)) (now (picture .entry)) (now (history .entry)))) (numberOf Unsound) 0) ⌝ }
+    ensures { λ r. ⌜ (r ≡ Done → Ready (world m t (now (memory .entry)) (now (picture .entry)) (now (history .entry)))) ⌝ }
+{
+    let fits = sizes_fit(memory, picture, history) & lists;
+    tested(fits, soundly(m, t, history))
 }
 
 // ---- what the instruction needs

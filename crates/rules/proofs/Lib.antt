@@ -12,3 +12,4 @@ pub mod Ready
 pub mod StepsBack
 pub mod Load
 pub mod OnlyOne
+pub mod Given

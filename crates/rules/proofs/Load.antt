@@ -8,9 +8,9 @@ use lib.ListN.{length, length-append, length-replicate}
 use lib.Dec.{ltb, leb}
 use borrow.Author.Tests.{ltb-true, leb-true, eq-eqb, le-leb}
 use Rattle.rules.specs.State.{fresh}
-use Rattle.rules.specs.World.{Answer, sizesFit}
+use Rattle.rules.specs.World.{Answer, boardOf, sizesFit}
 use Rattle.rules.specs.Load.{digits, freshWorld, loaded, loadedMemory, load, loadRefusal}
-use Rattle.rules.specs.Typed.{Below, none, more, TypedMachine}
+use Rattle.rules.specs.Typed.{Below, none, more, TypedMachine, TypedBoard}
 use Rattle.rules.specs.Past.{Start, LoadStarts}
 use Rattle.rules.proofs.Choices.{by-test, and-both, passed}
 use Rattle.rules.proofs.Parts.{zeroes, below-append, below-zeros}
@@ -53,25 +53,25 @@ loaded-below program h =
     below-append (below-append (below-append digits-below (below-zeros 432 (omega arith))) h) (below-zeros (3584 - length program) (omega arith))
 
 loaded-starts : (program history : List ℕ) → Below 256 program → length program ≤ 3584 → 288 ≤ length history → length history ≤ 65536
-    → Start (loaded program history)
+    → TypedBoard (boardOf (loaded program history)) × Start (loaded program history)
 loaded-starts program history h fits least most =
     let long : length (zeroes (length history)) ≡ length history = length-replicate {A = ℕ} (length history) 0 in
+    (record { machine = fresh-typed; memory = loaded-below program h; picture = below-zeros 256 (omega arith) },
     record {
-      typed = record { machine = fresh-typed; memory = loaded-below program h; picture = below-zeros 256 (omega arith) };
       fits = and-both (and-both (eq-eqb _ _ (loaded-length program fits)) (eq-eqb _ _ (length-replicate {A = ℕ} 256 0)))
           (rw long (and-both (le-leb _ _ least) (le-leb _ _ most)));
       sound = refl;
       next = rw long (omega arith);
       empty = refl;
-    }
+    })
 
 pub load-starts : LoadStarts
 unfolding load loadRefusal
 load-starts program memory picture history h =
-    by-test (λ (a : Answer). a .refusal ≡ 0 → Start (a .world)) (loadRefusal program memory picture history) 0 (λ e _. start e)
+    by-test (λ (a : Answer). a .refusal ≡ 0 → TypedBoard (boardOf (a .world)) × Start (a .world)) (loadRefusal program memory picture history) 0 (λ e _. start e)
     (λ ne e. absurd (ne e))
   where
-    start : loadRefusal program memory picture history ≡ 0 → Start (loaded program history)
+    start : loadRefusal program memory picture history ≡ 0 → TypedBoard (boardOf (loaded program history)) × Start (loaded program history)
     start e =
         let first = passed (sizesFit memory picture history) 8 _ e in
         let second = passed (leb 1 (length program) && leb (length program) 3584) 7 0 (first .1) in

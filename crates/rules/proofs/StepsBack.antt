@@ -18,6 +18,7 @@ use Rattle.rules.specs.World.{World, Answer, boardOf, places, buffersFit
 use Rattle.rules.specs.Call.{nextPlace, placeBefore, written, acted, step, stepBoard, stepped, stepRefusal}
 use Rattle.rules.specs.Call.{tick, tickBoard, ticked, tickRefusal, back, backRefusal, lastRecord, undone}
 use Rattle.rules.specs.Run.{Move, aStep, aTick, aBack, made, playFrom, unrefused}
+use Rattle.rules.specs.Typed.{TypedBoard}
 use Rattle.rules.specs.Past.{Past, added, struck, noted, follow, first, Start, Told, StepsBack}
 use Rattle.rules.proofs.Choices.{by-test}
 use Rattle.rules.proofs.Good.{GoodBoard}
@@ -239,13 +240,13 @@ back-number w = by-test (λ (a : Answer). a .refusal ≡ backRefusal w) (backRef
 told : (r : ℕ) (w : World) (p : Past) → Holds r w p → Told w p
 told r w p h = record { earlier = h .earlier; last = h .last; kept = h .kept; refused = back-number w ∙ refused-is r w p h }
 
-start-holds : (w : World) → Start w → Holds (places (w .history)) w (first w)
-start-holds w s =
+start-holds : (w : World) → TypedBoard (boardOf w) → Start w → Holds (places (w .history)) w (first w)
+start-holds w t s =
     record {
       earlier = [];
       last = refl;
       kept = s .empty;
-      ready = start-ready w (s .typed) (s .fits) (s .sound) (s .next) (omega (arith, s .empty));
+      ready = start-ready w t (s .fits) (s .sound) (s .next) (omega (arith, s .empty));
       room = refl;
       chain = subst (λ (k : ℕ). Chain (w .history) (places (w .history)) (w .trail .next) k (boardOf w) []) (sym (s .empty)) done;
     }
@@ -257,4 +258,4 @@ all-holds r [] a p h = h
 all-holds r (m ∷ ms) a p h = all-holds r ms (made m (a .world)) _ (move-holds r (a .world) p h m)
 
 pub steps-back : StepsBack
-steps-back w s moves = told (places (w .history)) _ _ (all-holds (places (w .history)) moves (unrefused w) _ (start-holds w s))
+steps-back w t s moves = told (places (w .history)) _ _ (all-holds (places (w .history)) moves (unrefused w) _ (start-holds w t s))

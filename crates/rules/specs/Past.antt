@@ -49,7 +49,6 @@ first w = record { boards = boardOf w ∷ []; kept = 0 }
 
 -- a sound state, buffers of the right sizes, and an empty history
 pub record Start (w : World) : Type 0 where
-  pub typed : TypedBoard (boardOf w)
   pub fits : buffersFit w ≡ true
   pub sound : sound (w .machine) ≡ true
   pub next : w .trail .next < places (w .history)
@@ -66,11 +65,11 @@ pub record Told (w : World) (p : Past) : Type 0 where
 
 abbrev pub StepsBack : Type 0
 StepsBack =
-    (w : World) → Start w → (moves : List Move)
+    (w : World) → TypedBoard (boardOf w) → Start w → (moves : List Move)
     → Told ((playFrom moves (unrefused w)) .world) (follow (places (w .history)) moves w (first w))
 
 -- an accepted load gives such a start
 abbrev pub LoadStarts : Type 0
 LoadStarts =
     (program memory picture history : List ℕ) → Below 256 program → (load program memory picture history) .refusal ≡ 0
-    → Start ((load program memory picture history) .world)
+    → let w = (load program memory picture history) .world in TypedBoard (boardOf w) × Start w

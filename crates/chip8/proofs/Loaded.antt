@@ -1,0 +1,82 @@
+-- A load: what it gives where it is refused, what its parts ask, and what they leave in memory.
+use mathlib.Core.Path.{_≡_, refl, sym, ap, ap₂, _∙_}
+use mathlib.Core.Bool.{true, _&&_, and-eq-true-iff}
+use mathlib.Core.List.{List, _++_, append-assoc}
+use Prim.Native.Nat.{ℕ, _+_, _-_, _≤_}
+use native.Mathlib.Omega.{arith}
+use lib.ListN.{length, take, drop, replicate, length-append, length-replicate, replicate-append-replicate}
+use lib.Seq.{take-at, drop-append-add}
+use lib.Dec.{leb}
+use borrow.Author.Tests.{leb-true}
+use Rattle.rules.specs.declared.Refusal.{Refusal}
+use Rattle.rules.specs.declared.Outcome.the-variants.{Done, Refused}
+use Rattle.rules.specs.Refusal.{number}
+use Rattle.rules.specs.State.{fresh}
+use Rattle.rules.specs.Memory.{over}
+use Rattle.rules.specs.World.{sizesFit}
+use Rattle.rules.specs.Load.{digits, freshTrail, freshWorld, loaded, loadedMemory, load, loadRefusal}
+use Rattle.rules.specs.Promise.{Gives}
+use Rattle.rules.proofs.Choices.{passed}
+use Rattle.rules.proofs.Parts.{zeroes, drop-zeros}
+use Rattle.rules.proofs.Ready.{Passed, fits-passed}
+use Rattle.rules.proofs.Given.{Back, given-refused, answered-done}
+
+-- ---- memory: the digits, zeros to the end, and the program laid over them
+
+-- the bytes before the program
+abbrev front : List ℕ
+front = digits ++ zeroes 432
+
+cleared : digits ++ zeroes 4016 ≡ front ++ zeroes 3584
+cleared = ap (λ (l : List ℕ). digits ++ l) (sym (replicate-append-replicate 432 3584 0)) ∙ sym (append-assoc digits (zeroes 432) (zeroes 3584))
+
+before-program : take 512 (front ++ zeroes 3584) ≡ front
+before-program = take-at front (zeroes 3584) 512 (simp (length-append, length-replicate))
+
+behind-program : (n : ℕ) → drop (512 + n) (front ++ zeroes 3584) ≡ zeroes (3584 - n)
+behind-program n =
+    let long : length front ≡ 512 = simp (length-append, length-replicate) in
+    rw long at (drop-append-add front (zeroes 3584) n) ∙ drop-zeros n 3584
+
+pub laid-out : (program memory₀ memory₁ memory₂ memory₃ : List ℕ) → length memory₁ ≡ 4096
+    → memory₁ ≡ over memory₀ 0 digits 80
+    → memory₂ ≡ take 80 memory₁ ++ replicate (length memory₁ - 80) 0
+    → memory₃ ≡ over memory₂ 512 program (length program)
+    → memory₃ ≡ loadedMemory program
+unfolding loadedMemory
+laid-out program memory₀ memory₁ memory₂ memory₃ size laid clear last =
+    let digit : take 80 memory₁ ≡ digits = rw laid (take-at digits (drop (0 + 80) memory₀) 80 refl) in
+    let second : memory₂ ≡ front ++ zeroes 3584 = clear ∙ rw (digit, size) cleared in
+    last ∙ ap (λ (l : List ℕ). over l 512 program (length program)) second
+    ∙ ap₂ (λ (a b : List ℕ). a ++ program ++ b) before-program (behind-program (length program))
+
+-- ---- the call
+
+module _ (program memory picture history : List ℕ) where
+  pub load-refused : (r : Refusal) → number (Refused r) ≡ loadRefusal program memory picture history
+      → Gives (load program memory picture history) (Refused r) fresh freshTrail memory picture history
+  unfolding load
+  load-refused r e =
+      given-refused (loadRefusal program memory picture history) (loaded program history) (freshWorld memory picture history) r e
+
+  pub record Room : Type 0 where
+    pub sizes : Passed (freshWorld memory picture history)
+    pub short : length program ≤ 3584
+
+  pub load-room : loadRefusal program memory picture history ≡ 0 → Room
+  unfolding loadRefusal
+  load-room e =
+      let first = passed (sizesFit memory picture history) 8 _ e in
+      let second = passed (leb 1 (length program) && leb (length program) 3584) 7 0 (first .1) in
+      record {
+        sizes = fits-passed (freshWorld memory picture history) (first .0);
+        short = leb-true _ _ (and-eq-true-iff (leb 1 (length program)) (leb (length program) 3584) .0 (second .0) .1);
+      }
+
+  pub load-gives : loadRefusal program memory picture history ≡ 0 → (mem pic his : List ℕ) → mem ≡ loadedMemory program
+      → pic ≡ replicate (length picture) 0 → his ≡ replicate (length history) 0
+      → Gives (load program memory picture history) Done fresh freshTrail mem pic his
+  unfolding load
+  load-gives e mem pic his em ep eh =
+      rw (answered-done (loadRefusal program memory picture history) (loaded program history) (freshWorld memory picture history) e)
+      (record { says = refl; machine = refl; trail = refl; memory = em; picture = rw ((load-room e) .sizes .picture) at ep; history = eh })

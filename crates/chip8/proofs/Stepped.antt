@@ -1,0 +1,94 @@
+-- A step of a world that passed the tests 9 and 10: what it gives where it is refused, what its parts ask, and what they make together.
+use mathlib.Core.Path.{_≡_, refl, sym, ap, _∙_}
+use mathlib.Core.List.{List}
+use Prim.Native.Nat.{ℕ, _+_, _≤_, _<_}
+use native.Mathlib.Omega.{arith}
+use lib.ListN.{length}
+use lib.Dec.{leb}
+use borrow.Author.Tests.{le-leb, lt-leb}
+use Rattle.rules.specs.declared.Machine.{Machine}
+use Rattle.rules.specs.declared.Trail.{Trail}
+use Rattle.rules.specs.declared.Op.{Op}
+use Rattle.rules.specs.declared.Refusal.{Refusal}
+use Rattle.rules.specs.declared.Refusal.the-variants.{PcPastEnd}
+use Rattle.rules.specs.declared.Outcome.the-variants.{Done, Refused}
+use Rattle.rules.specs.Number.{unless}
+use Rattle.rules.specs.Refusal.{number}
+use Rattle.rules.specs.Step.{refusalOf, changeOf, after}
+use Rattle.rules.specs.World.{World, boardOf, places, buffersFit, soundly}
+use Rattle.rules.specs.Call.{opAt, step, stepped, stepRefusal, written, grown}
+use Rattle.rules.specs.Promise.{Gives}
+use Rattle.rules.proofs.Ready.{Ready, ready-fits, ready-soundly, stepped-follows}
+use Rattle.rules.proofs.Given.{Back, given-refused, answered-done}
+use Rattle.act.specs.Accepted.{Accepted}
+use Rattle.act.specs.Became.{Became}
+use Rattle.chip8.specs.Inner.{InRange, Tickable, Keepable}
+
+module _ (w : World) (h : Ready w) where
+  abbrev m : Machine
+  m = w .machine
+
+  -- ---- what is left of the judgement
+
+  left : stepRefusal w ≡ unless (leb (m .pc) 4094) 1 (refusalOf (opAt (boardOf w)) m)
+  unfolding stepRefusal
+  left = rw (ready-fits w h, ready-soundly w h)
+
+  near-left : m .pc ≤ 4094 → stepRefusal w ≡ refusalOf (opAt (boardOf w)) m
+  near-left near = left ∙ rw (le-leb (m .pc) 4094 near)
+
+  pub far : (keys random : ℕ) → 4094 < m .pc → Back (step keys random w) (Refused PcPastEnd) w
+  unfolding step
+  far keys random past = given-refused (stepRefusal w) (stepped keys random w) w PcPastEnd (sym (left ∙ rw (lt-leb (m .pc) 4094 past)))
+
+  pub judged-refused : (keys random : ℕ) (op : Op) (r : Refusal) → op ≡ opAt (boardOf w) → m .pc ≤ 4094 → number (Refused r) ≡ refusalOf op m
+      → Back (step keys random w) (Refused r) w
+  unfolding step
+  judged-refused keys random op r e near n =
+      given-refused (stepRefusal w) (stepped keys random w) w r (n ∙ ap (λ (o : Op). refusalOf o m) e ∙ sym (near-left near))
+
+  -- ---- what its parts ask
+
+  pub tickable : Tickable m (w .trail) (w .history)
+  tickable =
+      record {
+        shallow = h .good .machine .calls .most;
+        most = h .most;
+        range = record { next = h .next; kept = h .limit; few = omega (arith, h .most) };
+      }
+
+  module _ (op : Op) (e : op ≡ opAt (boardOf w)) (near : m .pc ≤ 4094) (allowed : refusalOf op m ≡ 0) where
+    passes : stepRefusal w ≡ 0
+    passes = near-left near ∙ rw e at allowed
+
+    pub keepable : Keepable (changeOf op m) m (w .trail) (w .memory) (w .picture) (w .history)
+    keepable =
+        record {
+          tickable = tickable;
+          fits = rw e ((stepped-follows w h 0 0 passes) .undoable .fits);
+          memory = h .good .memory .size;
+          picture = h .good .picture .size;
+        }
+
+    pub accepted : Accepted op m (w .memory) (w .picture)
+    accepted =
+        record {
+          near = near;
+          shallow = h .good .machine .calls .most;
+          allowed = allowed;
+          memory = h .good .memory .size;
+          picture = h .good .picture .size;
+        }
+
+    -- ---- what they make together
+
+    pub step-gives : (keys random : ℕ) (m′ : Machine) (t′ : Trail) (mem pic his : List ℕ)
+        → Became (after op keys random m (w .memory) (w .picture)) m′ mem pic
+        → t′ ≡ grown (places (w .history)) (w .trail)
+        → his ≡ written (changeOf op m) w
+        → Gives (step keys random w) Done m′ t′ mem pic his
+    unfolding step stepped
+    step-gives keys random m′ t′ mem pic his b t k =
+        let b′ = rw e at b in
+        rw (answered-done (stepRefusal w) (stepped keys random w) w passes)
+        (record { says = refl; machine = b′ .machine; trail = t; memory = b′ .memory; picture = b′ .picture; history = rw e at k })

@@ -1,0 +1,19 @@
+-- Refused by the tests 9 or 10, or the step of a world that is ready.
+use borrow.Author.Needs.{needs}
+use Rattle.rules.specs.World.{world}
+use Rattle.chip8.proofs.Admitted.{step-refused}
+use Rattle.chip8.proofs.step.Statement.{statement}
+use Rattle.chip8.proofs.step.Tie as tie
+
+returns : tie.Need-returns
+returns c =
+    let refused = c .enum-told2 .given .1 in
+    let a = c .before .before .before .before .before .before .before .before .before .args in
+    rw refused
+    (step-refused (world (a .machine) (a .trail) (a .memory .now) (a .picture .now) (a .history .now)) _ (rw refused at (c .before .before .admitted .ensures .0)) _ _)
+
+pub step-spec : {M : Type 1} → statement M
+step-spec =
+    tie.close
+    (tie.spec (search needs) (search needs) (search needs) (search needs) (search needs) (search needs) returns
+    (λ c κs. c .before .before .before .before .before .admitted .ensures .1 (c .before .before .before .enum-told .given .1)) (search needs) (search needs) (search needs) (λ c. c .before .before .before .before .before .before .step .ensures))

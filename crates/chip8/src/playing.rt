@@ -1,0 +1,72 @@
+// A play, move by move.
+ghost use mathlib.Core.Path.{_≡_};
+ghost use mathlib.Core.Bool.{true};
+ghost use Rattle.rules.specs.World.{world};
+ghost use Rattle.rules.specs.Run.{unrefused, listsFit, allMoves, moveOf, movesOf, made, playFrom};
+ghost use Rattle.rules.specs.Promise.{Gives};
+use crate::Answer;
+use rules::Machine;
+use rules::Outcome;
+use rules::Trail;
+
+// Whether each byte is a move.
+pub fn all_moves(moves: &[u8]) -> bool
+    ensures { λ r. ⌜ r ≡ allMoves (now (moves .entry)) ⌝ }
+{
+    let mut i = 0;
+    while i < moves.len() {
+        if moves[i] > 2 {
+            return false;
+        }
+        i += 1;
+    }
+    true
+}
+
+// One move.
+fn make(
+    step: u8,
+    machine: Machine,
+    trail: Trail,
+    memory: &mut [u8],
+    picture: &mut [u8],
+    history: &mut [u8],
+    keys: u16,
+    random: u8,
+) -> Answer
+    ensures { λ r. ⌜ Gives (made (moveOf step keys random) (world machine trail (now (memory .entry)) (now (picture .entry)) (now (history .entry)))) (r .outcome) (r .machine) (r .trail) (now (memory .exit)) (now (picture .exit)) (now (history .exit)) ⌝ }
+{
+    match step {
+        0 => crate::step(machine, trail, memory, picture, history, keys, random),
+        1 => crate::tick(machine, trail, history),
+        _ => crate::back(machine, trail, memory, picture, history),
+    }
+}
+
+pub fn play(
+    machine: Machine,
+    trail: Trail,
+    memory: &mut [u8],
+    picture: &mut [u8],
+    history: &mut [u8],
+    moves: &[u8],
+    keys: &[u16],
+    randoms: &[u8],
+) -> Answer
+    requires { ⌜ listsFit (now moves) (now keys) (now randoms) ≡ true ⌝ }
+    ensures { λ r. ⌜ Gives (playFrom (movesOf (now (moves .entry)) (now (keys .entry)) (now (randoms .entry))) (unrefused (world machine trail (now (memory .entry)) (now (picture .entry)) (now (history .entry))))) (r .outcome) (r .machine) (r .trail) (now (memory .exit)) (now (picture .exit)) (now (history .exit)) ⌝ }
+{
+    let mut last = Answer {
+        outcome: Outcome::Done,
+        machine,
+        trail,
+    };
+    let mut i = 0;
+    while i < moves.len() {
+        let m = last.machine;
+        let t = last.trail;
+        last = make(moves[i], m, t, memory, picture, history, keys[i], randoms[i]);
+        i += 1;
+    }
+    last
+}

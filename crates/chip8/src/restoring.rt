@@ -1,0 +1,77 @@
+// A step back in a world that passed the tests 9 and 10.
+ghost use mathlib.Core.Path.{_≡_};
+ghost use Prim.Native.Nat.{_≤_};
+ghost use lib.ListN.{length};
+ghost use Rattle.rules.specs.World.{world, places};
+ghost use Rattle.rules.specs.Record.{placeSize, memoryAt, pictureAt};
+ghost use Rattle.rules.specs.Call as rules_call;
+ghost use Rattle.rules.specs.Promise.{Gives};
+ghost use Rattle.rules.proofs.Undo.{Fits};
+ghost use Rattle.rules.proofs.Ready.{Ready};
+use crate::record;
+use crate::Answer;
+use rules::Change;
+use rules::Machine;
+use rules::Outcome;
+use rules::Refusal;
+use rules::Trail;
+
+// Puts the old bytes of a record back where they stood.
+fn put_back(change: Change, place: &[u8], memory: &mut [u8], picture: &mut [u8])
+    requires { ⌜ (length (now place) ≡ placeSize) × (length (now memory) ≡ 4096) × (length (now picture) ≡ 256) × Fits change ⌝ }
+    ensures { λ _. ⌜ now (memory .exit) ≡ memoryAt change (now (place .entry)) (now (memory .entry)) ⌝ }
+    ensures { λ _. ⌜ now (picture .exit) ≡ pictureAt change (now (place .entry)) (now (picture .entry)) ⌝ }
+{
+    match change {
+        Change::Nothing => {}
+        Change::InMemory(start, count) => {
+            let end = history::AT_OLD + count as usize;
+            memory::lay(memory, start as usize, &place[history::AT_OLD..end]);
+        }
+        Change::InPicture(start, count) => {
+            let end = history::AT_OLD + count as usize;
+            memory::lay(picture, start as usize, &place[history::AT_OLD..end]);
+        }
+    }
+}
+
+pub fn back(
+    machine: Machine,
+    trail: Trail,
+    memory: &mut [u8],
+    picture: &mut [u8],
+    history: &[u8],
+) -> Answer
+    requires { ⌜ Ready (world machine trail (now memory) (now picture) (now history)) ⌝ }
+    ensures { λ r. ⌜ Gives (rules_call.back (world machine trail (now (memory .entry)) (now (picture .entry)) (now (history .entry)))) (r .outcome) (r .machine) (r .trail) (now (memory .exit)) (now (picture .exit)) (now (history .entry)) ⌝ }
+{
+    if trail.kept == 0 {
+        return Answer {
+            outcome: Outcome::Refused(Refusal::NothingKept),
+            machine,
+            trail,
+        };
+    }
+    let last = record::place_before(trail.next, judge::places(history));
+    let at = history::PLACE * last;
+    let end = at + history::PLACE;
+    let old = history::read(&history[at..end], machine);
+    if old.damaged {
+        return Answer {
+            outcome: Outcome::Refused(Refusal::Damaged),
+            machine,
+            trail,
+        };
+    }
+    let change = old.change;
+    put_back(change, &history[at..end], memory, picture);
+    let before = old.machine;
+    Answer {
+        outcome: Outcome::Done,
+        machine: before,
+        trail: Trail {
+            next: last,
+            kept: trail.kept - 1,
+        },
+    }
+}
