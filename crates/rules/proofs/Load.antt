@@ -8,7 +8,7 @@ use lib.ListN.{length, length-append, length-replicate}
 use lib.Dec.{ltb, leb}
 use borrow.Author.Tests.{ltb-true, leb-true, eq-eqb, le-leb}
 use Rattle.rules.specs.State.{fresh}
-use Rattle.rules.specs.World.{World, Answer, buffersFit}
+use Rattle.rules.specs.World.{Answer, sizesFit}
 use Rattle.rules.specs.Load.{digits, freshWorld, loaded, loadedMemory, load, loadRefusal}
 use Rattle.rules.specs.Typed.{Below, none, more, TypedMachine}
 use Rattle.rules.specs.Past.{Start, LoadStarts}
@@ -68,12 +68,12 @@ loaded-starts program history h fits least most =
 pub load-starts : LoadStarts
 unfolding load loadRefusal
 load-starts program memory picture history h =
-    by-test (λ (a : Answer). a .refusal ≡ 0 → Start (a .world)) (loadRefusal program (freshWorld memory picture history)) 0 (λ e _. start e)
+    by-test (λ (a : Answer). a .refusal ≡ 0 → Start (a .world)) (loadRefusal program memory picture history) 0 (λ e _. start e)
     (λ ne e. absurd (ne e))
   where
-    start : loadRefusal program (freshWorld memory picture history) ≡ 0 → Start (loaded program history)
+    start : loadRefusal program memory picture history ≡ 0 → Start (loaded program history)
     start e =
-        let first = passed (buffersFit (freshWorld memory picture history)) 8 _ e in
+        let first = passed (sizesFit memory picture history) 8 _ e in
         let second = passed (leb 1 (length program) && leb (length program) 3584) 7 0 (first .1) in
         let room = fits-passed (freshWorld memory picture history) (first .0) in
         let short = leb-true _ _ (and-eq-true-iff (leb 1 (length program)) (leb (length program) 3584) .0 (second .0) .1) in

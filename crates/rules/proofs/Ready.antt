@@ -13,7 +13,7 @@ use Rattle.rules.specs.Number.{pick, unless}
 use Rattle.rules.specs.State.{sound}
 use Rattle.rules.specs.Record.{recordOf}
 use Rattle.rules.specs.Step.{Board, refusalOf, changeOf}
-use Rattle.rules.specs.World.{World, Answer, boardOf, places, historyFits, buffersFit, soundly, answered}
+use Rattle.rules.specs.World.{World, Answer, boardOf, places, historyFits, buffersFit, trailFits, soundly, answered}
 use Rattle.rules.specs.Call.{nextPlace, written, acted, opAt, stepBoard, stepRefusal, stepped, step, tickBoard, ticked}
 use Rattle.rules.specs.Run.{tickedBy}
 use Rattle.rules.specs.Typed.{TypedBoard}
@@ -71,11 +71,9 @@ start-ready w t fits s next limit =
 
 pub tests-ready : (w : World) → TypedBoard (boardOf w) → buffersFit w ≡ true → soundly w ≡ true → Ready w
 tests-ready w t fits s =
-    let n = ltb (w .trail .next) (places (w .history)) in
-    let k = leb (w .trail .kept) (places (w .history)) in
-    let all = and-eq-true-iff (sound (w .machine) && n) k .0 s in
-    let both = and-eq-true-iff (sound (w .machine)) n .0 (all .0) in
-    start-ready w t fits (both .0) (ltb-true _ _ (both .1)) (leb-true _ _ (all .1))
+    let all = and-eq-true-iff (sound (w .machine)) (trailFits (w .trail) (w .history)) .0 s in
+    let both = and-eq-true-iff (ltb (w .trail .next) (places (w .history))) (leb (w .trail .kept) (places (w .history))) .0 (all .1) in
+    start-ready w t fits (all .0) (ltb-true _ _ (both .0)) (leb-true _ _ (both .1))
 
 pub ready-fits : (w : World) → Ready w → buffersFit w ≡ true
 ready-fits w h =
@@ -84,8 +82,8 @@ ready-fits w h =
 
 pub ready-soundly : (w : World) → Ready w → soundly w ≡ true
 ready-soundly w h =
-    and-both (and-both (good-sound (w .machine) (h .good .machine)) (lt-ltb (w .trail .next) (places (w .history)) (h .next)))
-    (le-leb (w .trail .kept) (places (w .history)) (h .limit))
+    and-both (good-sound (w .machine) (h .good .machine))
+    (and-both (lt-ltb (w .trail .next) (places (w .history)) (h .next)) (le-leb (w .trail .kept) (places (w .history)) (h .limit)))
 
 -- ---- an accepted action
 

@@ -9,7 +9,7 @@ use Rattle.rules.specs.declared.Trail.{Trail}
 use Rattle.rules.specs.Number.{unless}
 use Rattle.rules.specs.Refusal.{numberOf}
 use Rattle.rules.specs.State.{memorySize, pictureSize, startAddress, fresh}
-use Rattle.rules.specs.World.{World, Answer, world, buffersFit, answered}
+use Rattle.rules.specs.World.{World, Answer, world, sizesFit, answered}
 
 -- the digits 0 to F, five bytes each
 abbrev pub digits : List ℕ
@@ -46,13 +46,12 @@ abbrev pub loaded : List ℕ → List ℕ → World
 loaded program history = freshWorld (loadedMemory program) (replicate pictureSize 0) (replicate (length history) 0)
 
 -- 9, then 8
-unfoldable pub loadRefusal : List ℕ → World → ℕ
-loadRefusal program w =
-    unless (buffersFit w) (numberOf BufferLength)
+unfoldable pub loadRefusal : List ℕ → List ℕ → List ℕ → List ℕ → ℕ
+loadRefusal program memory picture history =
+    unless (sizesFit memory picture history) (numberOf BufferLength)
     (unless (leb 1 (length program) && leb (length program) (memorySize - startAddress)) (numberOf ProgramLength)
     0)
 
 unfoldable pub load : List ℕ → List ℕ → List ℕ → List ℕ → Answer
 load program memory picture history =
-    let w = freshWorld memory picture history in
-    answered (loadRefusal program w) (loaded program history) w
+    answered (loadRefusal program memory picture history) (loaded program history) (freshWorld memory picture history)

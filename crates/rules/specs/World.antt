@@ -35,12 +35,18 @@ places history = length history / placeSize
 abbrev pub historyFits : List ℕ → Bool
 historyFits history = leb placeSize (length history) && leb (length history) 65536
 
-abbrev pub buffersFit : World → Bool
-buffersFit w = eqb (length (w .memory)) memorySize && eqb (length (w .picture)) pictureSize && historyFits (w .history)
+abbrev pub sizesFit : List ℕ → List ℕ → List ℕ → Bool
+sizesFit memory picture history = eqb (length memory) memorySize && eqb (length picture) pictureSize && historyFits history
 
--- the state is sound, and next and kept are in range
+abbrev pub buffersFit : World → Bool
+buffersFit w = sizesFit (w .memory) (w .picture) (w .history)
+
+-- next and kept are in range
+abbrev pub trailFits : Trail → List ℕ → Bool
+trailFits t history = ltb (t .next) (places history) && leb (t .kept) (places history)
+
 abbrev pub soundly : World → Bool
-soundly w = sound (w .machine) && ltb (w .trail .next) (places (w .history)) && leb (w .trail .kept) (places (w .history))
+soundly w = sound (w .machine) && trailFits (w .trail) (w .history)
 
 -- ---- what a call answers: its refusal number, 0 for none, and the world handed back
 
