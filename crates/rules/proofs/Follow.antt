@@ -291,7 +291,7 @@ module _ (b : Board) (g : GoodBoard b) (m : Machine) (k : Reached (b .machine) m
         undoable = record { fits = (low, omega arith, fit); only = (refl, o); near = k .near };
       }
 
-past-fits : (m : Machine) (n : ℕ) → 0 < n → past m n ≡ 0 → m .i + n ≤ 4096
+pub past-fits : (m : Machine) (n : ℕ) → 0 < n → past m n ≡ 0 → m .i + n ≤ 4096
 past-fits m n h e = leb-true (m .i + n) 4096 ((passed (leb (m .i + n) 4096) 5 0 (rw (ne-eqb n 0 (λ z. omega arith)) at e)) .0)
 
 -- the rows that a pattern changes
@@ -314,7 +314,7 @@ module _ (b : Board) (g : GoodBoard b) (m : Machine) (k : Reached (b .machine) m
       let some : 1 ≤ n = omega (arith, eqb-false n 0 e) in
       painting b g m k new (8 * row) (rowBytes n row) (drawn-bytes pattern column row (b .picture) (g .picture)) rows (omega arith) (omega arith)
 
-pattern-length : (b : Board) (n : ℕ) → GoodBoard b → past (b .machine) n ≡ 0 → length (part (b .memory) (b .machine .i) n) ≡ n
+pub pattern-length : (b : Board) (n : ℕ) → GoodBoard b → past (b .machine) n ≡ 0 → length (part (b .memory) (b .machine .i) n) ≡ n
 pattern-length b zero g e = refl
 pattern-length b (suc n) g e =
     part-length (b .memory) (b .machine .i) (suc n) (omega (arith, past-fits (b .machine) (suc n) (omega arith) e, g .memory .size))
