@@ -68,9 +68,9 @@ reads-back b size small clear =
     let depth : depthOf b ≡ byteAt b 20 = rw clear in
     to-the-right (part b 0 16) (middle m) (sixFrom 0 (m .stack)) (sixFrom 6 (m .stack)) (numbers (trailOf b)) (replicate 12 0)
     ∙ (λ i. part b 0 16 ++ (
-      high 16 i ∷ low 16 i ∷ high 18 i ∷ low 18 i ∷ depth i ∷ byteAt b 21 ∷ byteAt b 22 ∷ held-back (byteAt b 23) i ∷
-      high 24 i ∷ low 24 i ∷ high 26 i ∷ low 26 i ∷ high 28 i ∷ low 28 i ∷ high 30 i ∷ low 30 i ∷
-      high 32 i ∷ low 32 i ∷ high 34 i ∷ low 34 i ∷ high 36 i ∷ low 36 i ∷ high 38 i ∷ low 38 i ∷
-      high 40 i ∷ low 40 i ∷ high 42 i ∷ low 42 i ∷ high 44 i ∷ low 44 i ∷ high 46 i ∷ low 46 i ∷
-      high 48 i ∷ low 48 i ∷ high 50 i ∷ low 50 i ∷ zeroes 12))
+    high 16 i ∷ low 16 i ∷ high 18 i ∷ low 18 i ∷ depth i ∷ byteAt b 21 ∷ byteAt b 22 ∷ held-back (byteAt b 23) i ∷
+    high 24 i ∷ low 24 i ∷ high 26 i ∷ low 26 i ∷ high 28 i ∷ low 28 i ∷ high 30 i ∷ low 30 i ∷
+    high 32 i ∷ low 32 i ∷ high 34 i ∷ low 34 i ∷ high 36 i ∷ low 36 i ∷ high 38 i ∷ low 38 i ∷
+    high 40 i ∷ low 40 i ∷ high 42 i ∷ low 42 i ∷ high 44 i ∷ low 44 i ∷ high 46 i ∷ low 46 i ∷
+    high 48 i ∷ low 48 i ∷ high 50 i ∷ low 50 i ∷ zeroes 12))
     ∙ sym (whole b small size clear)

@@ -1,15 +1,11 @@
 -- The invariant: what is left from k on is clear exactly if all from `at` on is.
 use mathlib.Core.Path.{_≡_, refl, sym, _∙_}
-use mathlib.Core.Bool.{false}
-use mathlib.Core.List.{List}
-use Prim.Native.Nat.{ℕ, _+_, _-_, _≤_, _<_}
-use native.Mathlib.Numerals.{add-one}
+use Prim.Native.Nat.{_-_, _≤_}
 use native.Mathlib.Omega.{arith}
 use borrow.Author.Needs.{needs}
-use borrow.Author.Tests.{ne-eqb, eq-eqb}
-use lib.ListN.{drop, getD, length, drop-of-length-le}
-use lib.Seq.{drop-cons}
+use lib.ListN.{drop, length}
 use Rattle.rules.specs.State.{zeros}
+use Rattle.rules.proofs.Zeros.{zeros-stop, zeros-on, zeros-end}
 use Rattle.judge.proofs.clear_from.Statement.{statement}
 use Rattle.judge.proofs.clear_from.Tie as tie
 
