@@ -4,3 +4,6 @@ pub mod Stepped
 pub mod Undone
 pub mod Admitted
 pub mod Loaded
+pub mod Ticks
+pub mod Entries
+pub mod Moves

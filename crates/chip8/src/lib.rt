@@ -39,12 +39,7 @@ pub struct Ran {
 }
 
 // Loads a program: digits, program and zeros to memory, zeros to the picture and the history.
-pub fn load(
-    program: &[u8],
-    memory: &mut [u8],
-    picture: &mut [u8],
-    history: &mut [u8],
-) -> Answer
+pub fn load(program: &[u8], memory: &mut [u8], picture: &mut [u8], history: &mut [u8]) -> Answer
     ensures { λ r. ⌜ Gives (rules_load.load (now (program .entry)) (now (memory .entry)) (now (picture .entry)) (now (history .entry))) (r .outcome) (r .machine) (r .trail) (now (memory .exit)) (now (picture .exit)) (now (history .exit)) ⌝ }
 {
     let machine = Machine::fresh();
@@ -150,7 +145,16 @@ pub fn run(
             trail,
         };
     };
-    running::run(machine, trail, memory, picture, history, ticks, keys, randoms)
+    running::run(
+        machine,
+        trail,
+        memory,
+        picture,
+        history,
+        ticks,
+        keys,
+        randoms,
+    )
 }
 
 // Makes a list of moves (0 a step, 1 a tick, 2 a step back), each on what the last one gave, refused ones included, and answers
@@ -168,7 +172,8 @@ pub fn play(
     ensures { λ r. ⌜ Gives (rules_run.play (now (moves .entry)) (now (keys .entry)) (now (randoms .entry)) (world machine trail (now (memory .entry)) (now (picture .entry)) (now (history .entry)))) (r .outcome) (r .machine) (r .trail) (now (memory .exit)) (now (picture .exit)) (now (history .exit)) ⌝ }
     ensures { λ r. ⌜ (Start (world machine trail (now (memory .entry)) (now (picture .entry)) (now (history .entry))) → listsFit (now (moves .entry)) (now (keys .entry)) (now (randoms .entry)) ≡ true → allMoves (now (moves .entry)) ≡ true → Told (world (r .machine) (r .trail) (now (memory .exit)) (now (picture .exit)) (now (history .exit))) (follow (places (now (history .entry))) (movesOf (now (moves .entry)) (now (keys .entry)) (now (randoms .entry))) (world machine trail (now (memory .entry)) (now (picture .entry)) (now (history .entry))) (first (world machine trail (now (memory .entry)) (now (picture .entry)) (now (history .entry)))))) ⌝ }
 {
-    let lists = running::lists_fit(moves.len(), keys.len(), randoms.len()) & playing::all_moves(moves);
+    let lists = running::lists_fit(moves.len(), keys.len(), randoms.len())
+        & playing::all_moves(moves);
     let outcome = judge::admitted(machine, trail, memory, picture, history, lists);
     let Outcome::Done = outcome else {
         return Answer {
@@ -177,5 +182,14 @@ pub fn play(
             trail,
         };
     };
-    playing::play(machine, trail, memory, picture, history, moves, keys, randoms)
+    playing::play(
+        machine,
+        trail,
+        memory,
+        picture,
+        history,
+        moves,
+        keys,
+        randoms,
+    )
 }

@@ -8,8 +8,8 @@ ghost use Rattle.rules.specs.Run.{tickedBy, unrefused};
 ghost use Rattle.rules.specs.Promise.{Gives};
 ghost use Rattle.rules.proofs.Ready.{Ready};
 ghost use Rattle.chip8.specs.Inner.{Tickable};
-use crate::record;
 use crate::Answer;
+use crate::record;
 use rules::Change;
 use rules::Machine;
 use rules::Outcome;
@@ -47,7 +47,14 @@ pub fn step(
         };
     };
     let places = judge::places(history);
-    record::keep(act::change_of(op, machine), machine, trail, memory, picture, history);
+    record::keep(
+        act::change_of(op, machine),
+        machine,
+        trail,
+        memory,
+        picture,
+        history,
+    );
     let next = act::act(op, machine, memory, picture, keys, random);
     Answer {
         outcome: Outcome::Done,

@@ -65,7 +65,16 @@ pub fn play(
     while i < moves.len() {
         let m = last.machine;
         let t = last.trail;
-        last = make(moves[i], m, t, memory, picture, history, keys[i], randoms[i]);
+        last = make(
+            moves[i],
+            m,
+            t,
+            memory,
+            picture,
+            history,
+            keys[i],
+            randoms[i],
+        );
         i += 1;
     }
     last

@@ -10,9 +10,9 @@ ghost use Rattle.rules.specs.Run.{tickedBy, runFrom, unrefused, listsFit};
 ghost use Rattle.rules.specs.Promise.{Gives, GivesRun};
 ghost use Rattle.rules.proofs.Ready.{Ready};
 ghost use Rattle.chip8.specs.Inner.{Tickable};
-use crate::moving;
 use crate::Answer;
 use crate::Ran;
+use crate::moving;
 use rules::Machine;
 use rules::Outcome;
 use rules::Trail;
@@ -85,7 +85,16 @@ pub fn run(
     let mut t = trail;
     let mut i = 0;
     while i < ticks.len() {
-        let answer = entry(m, t, memory, picture, history, ticks[i], keys[i], randoms[i]);
+        let answer = entry(
+            m,
+            t,
+            memory,
+            picture,
+            history,
+            ticks[i],
+            keys[i],
+            randoms[i],
+        );
         let next_machine = answer.machine;
         let next_trail = answer.trail;
         m = next_machine;

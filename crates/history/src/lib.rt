@@ -1,25 +1,26 @@
-// A history's records, written and read back. What a record is stands in the specs of `rules`.
-use rules::Change;
-use rules::Machine;
-use rules::Timers;
-use rules::Wait;
+// A history's records, written and read back. The specs of `rules`, Record.antt, say what a record is.
 ghost use mathlib.Core.Path.{_≡_};
 ghost use mathlib.Core.List.{_++_};
-ghost use Prim.Native.Nat.{_+_, _-_, _*_, _/_, _%_, _≤_, _<_};
+ghost use Prim.Native.Nat.{_+_, _-_, _*_, _≤_};
 ghost use lib.ListN.{length, take, replicate};
 ghost use Rattle.history.specs.Writable.{Writable};
 ghost use Rattle.history.specs.Restored.{restored};
 ghost use Rattle.rules.specs.Memory.{over, part};
-ghost use Rattle.rules.specs.Record.{placeSize, mark, start, count, lastReturn, heldByte, fields, recordWith, byteAt, wordAt, marked, known, allowed, depthSound, keySound, damaged, changeAt, waitAt, stackAt, machineAt};
+ghost use Rattle.rules.specs.State.{stackSize};
+ghost use Rattle.rules.specs.Record.{placeSize, atV, atDepth, mark, start, count, lastReturn, heldByte, fields, recordWith};
+ghost use Rattle.rules.specs.Record.{byteAt, marked, known, allowed, depthSound, keySound, damaged};
+ghost use Rattle.rules.specs.Record.{changeAt, waitAt, stackAt, machineAt};
+use rules::Change;
+use rules::Machine;
+use rules::Timers;
+use rules::Wait;
 
-// The bytes of a place, and where each part of its record lies.
+// How many bytes a place has, and where each part of its record begins.
 pub const PLACE: usize = 288;
 
 const AT_MARK: usize = 0;
 
 const AT_V: usize = 2;
-
-const AT_FIELDS: usize = 18;
 
 const AT_I: usize = 18;
 
@@ -41,26 +42,15 @@ const AT_COUNT: usize = 30;
 
 pub const AT_OLD: usize = 32;
 
-// What a record gives back; of a damaged one, the present state and no change.
+// What a record gives back: the state before the action, and what the action changed. A damaged one gives the present state and no
+// change.
 pub struct Restored {
     pub damaged: bool,
     pub machine: Machine,
     pub change: Change,
 }
 
-// ---- the parts of a header
-
-fn high(n: u16) -> u8
-    ensures { λ r. ⌜ r ≡ n / 256 % 256 ⌝ }
-{
-    (n / 256) as u8
-}
-
-fn low(n: u16) -> u8
-    ensures { λ r. ⌜ r ≡ n % 256 ⌝ }
-{
-    (n % 256) as u8
-}
+// ---- the parts of a record
 
 fn mark_of(c: Change) -> [u8; 2]
     ensures { λ r. ⌜ r ≡ mark c ⌝ }
@@ -92,8 +82,9 @@ fn count_of(c: Change) -> u16
     }
 }
 
+// 0 where nothing is on the stack.
 fn last_return(m: Machine) -> u16
-    requires { ⌜ m .depth ≤ 12 ⌝ }
+    requires { ⌜ m .depth ≤ stackSize ⌝ }
     ensures { λ r. ⌜ r ≡ lastReturn m ⌝ }
 {
     let depth = m.depth as usize;
@@ -109,9 +100,9 @@ fn held_byte(w: Wait) -> u8
     }
 }
 
-// What follows the registers.
+// What lies between the registers and the old bytes.
 fn fields_of(m: Machine, c: Change) -> [u8; 14]
-    requires { ⌜ m .depth ≤ 12 ⌝ }
+    requires { ⌜ m .depth ≤ stackSize ⌝ }
     ensures { λ r. ⌜ r ≡ fields m c ⌝ }
 {
     let last = last_return(m);
@@ -119,27 +110,27 @@ fn fields_of(m: Machine, c: Change) -> [u8; 14]
     let count = count_of(c);
     let wait = m.wait;
     [
-        high(m.i),
-        low(m.i),
-        high(m.pc),
-        low(m.pc),
+        memory::high(m.i),
+        memory::low(m.i),
+        memory::high(m.pc),
+        memory::low(m.pc),
         m.depth,
-        high(last),
-        low(last),
+        memory::high(last),
+        memory::low(last),
         m.timers.delay,
         m.timers.tone,
         held_byte(wait),
-        high(start),
-        low(start),
-        high(count),
-        low(count),
+        memory::high(start),
+        memory::low(start),
+        memory::high(count),
+        memory::low(count),
     ]
 }
 
 // ---- writing
 
-// Fills a place with the record of `m` and `c`; `old` are the bytes that are about to change.
-pub fn write(place: &mut [u8], m: Machine, c: Change, old: &[u8])
+// Fills a place, from its mark to its last byte.
+fn write(place: &mut [u8], m: Machine, c: Change, old: &[u8])
     requires { ⌜ Writable m c (now old) ⌝ }
     requires { ⌜ length (now place) ≡ placeSize ⌝ }
     ensures { λ _. ⌜ now (place .exit) ≡ recordWith m c (now (old .entry)) ⌝ }
@@ -149,12 +140,12 @@ pub fn write(place: &mut [u8], m: Machine, c: Change, old: &[u8])
     let fields = fields_of(m, c);
     memory::lay(place, AT_MARK, &mark);
     memory::lay(place, AT_V, &v);
-    memory::lay(place, AT_FIELDS, &fields);
+    memory::lay(place, AT_I, &fields);
     memory::lay(place, AT_OLD, old);
     memory::clear(place, AT_OLD + old.len());
 }
 
-// Writes the record into the place `next` of a history.
+// Writes the record of a state and a change into the place `next` of a history. `old` are the bytes that are about to change.
 pub fn keep(history: &mut [u8], next: usize, m: Machine, c: Change, old: &[u8])
     requires { ⌜ Writable m c (now old) ⌝ }
     requires { ⌜ placeSize * next + placeSize ≤ length (now history) ⌝ }
@@ -166,17 +157,11 @@ pub fn keep(history: &mut [u8], next: usize, m: Machine, c: Change, old: &[u8])
 
 // ---- reading
 
-fn wide(x: u8) -> u16
-    ensures { λ r. ⌜ (r ≡ x) × (r < 256) ⌝ }
+fn depth_at(place: &[u8]) -> u8
+    requires { ⌜ length (now place) ≡ placeSize ⌝ }
+    ensures { λ r. ⌜ r ≡ byteAt (now (place .entry)) atDepth ⌝ }
 {
-    x as u16
-}
-
-fn word_at(place: &[u8], at: usize) -> u16
-    requires { ⌜ at + 1 < length (now place) ⌝ }
-    ensures { λ r. ⌜ r ≡ wordAt (now (place .entry)) at ⌝ }
-{
-    256 * wide(place[at]) + wide(place[at + 1])
+    place[AT_DEPTH]
 }
 
 fn is_marked(place: &[u8], a: u8, b: u8) -> bool
@@ -187,12 +172,12 @@ fn is_marked(place: &[u8], a: u8, b: u8) -> bool
 }
 
 // What the action changed.
-pub fn change_at(place: &[u8]) -> Change
+fn change_at(place: &[u8]) -> Change
     requires { ⌜ length (now place) ≡ placeSize ⌝ }
     ensures { λ r. ⌜ r ≡ changeAt (now (place .entry)) ⌝ }
 {
-    let start = word_at(place, AT_START);
-    let count = word_at(place, AT_COUNT);
+    let start = memory::word_at(place, AT_START);
+    let count = memory::word_at(place, AT_COUNT);
     if is_marked(place, b'M', b'E') {
         return Change::InMemory(start, count);
     }
@@ -202,6 +187,7 @@ pub fn change_at(place: &[u8]) -> Change
     Change::Nothing
 }
 
+// The change is no longer than its mark allows, and inside its buffer.
 fn is_allowed(c: Change) -> bool
     ensures { λ r. ⌜ r ≡ allowed c ⌝ }
 {
@@ -211,31 +197,33 @@ fn is_allowed(c: Change) -> bool
             & (n <= 16)
             & (s as usize + n as usize <= Machine::MEMORY),
         Change::InPicture(s, n) => (1 <= n)
-            & (n <= 256)
+            & (n as usize <= Machine::PICTURE)
             & (s as usize + n as usize <= Machine::PICTURE),
     }
 }
 
+// The mark is known, and NO has no start and no count.
 fn is_known(place: &[u8]) -> bool
     requires { ⌜ length (now place) ≡ placeSize ⌝ }
     ensures { λ r. ⌜ r ≡ known (now (place .entry)) ⌝ }
 {
-    let start = word_at(place, AT_START);
-    let count = word_at(place, AT_COUNT);
+    let start = memory::word_at(place, AT_START);
+    let count = memory::word_at(place, AT_COUNT);
     is_marked(place, b'M', b'E')
         | is_marked(place, b'D', b'I')
         | (is_marked(place, b'N', b'O') & (start == 0) & (count == 0))
 }
 
+// At most one away from the present depth; an empty stack has no return address.
 fn depth_sound(place: &[u8], present: u8) -> bool
     requires { ⌜ length (now place) ≡ placeSize ⌝ }
     ensures { λ r. ⌜ r ≡ depthSound (now (place .entry)) present ⌝ }
 {
-    let depth = wide(place[AT_DEPTH]);
-    let last = word_at(place, AT_LAST);
-    (depth <= 12)
-        & (depth <= present as u16 + 1)
-        & (present as u16 <= depth + 1)
+    let depth = depth_at(place);
+    let last = memory::word_at(place, AT_LAST);
+    (depth as usize <= Machine::STACK)
+        & (depth as u16 <= present as u16 + 1)
+        & (present as u16 <= depth as u16 + 1)
         & (!(depth == 0) | (last == 0))
 }
 
@@ -246,7 +234,7 @@ fn key_sound(place: &[u8]) -> bool
     (place[AT_HELD] <= 15) | (place[AT_HELD] == 0xFF)
 }
 
-// Whether a record is damaged, beside a state of that depth.
+// Whether a record is damaged, beside a state of the present depth.
 pub fn is_damaged(place: &[u8], present: u8) -> bool
     requires { ⌜ length (now place) ≡ placeSize ⌝ }
     ensures { λ r. ⌜ r ≡ damaged (now (place .entry)) present ⌝ }
@@ -271,20 +259,20 @@ fn wait_at(place: &[u8]) -> Wait
 
 fn registers_at(place: &[u8]) -> [u8; 16]
     requires { ⌜ length (now place) ≡ placeSize ⌝ }
-    ensures { λ r. ⌜ r ≡ part (now (place .entry)) 2 16 ⌝ }
+    ensures { λ r. ⌜ r ≡ part (now (place .entry)) atV 16 ⌝ }
 {
     let mut v = [0; 16];
     memory::lay(&mut v, 0, &place[AT_V..AT_I]);
     v
 }
 
-// Zeros from `depth` on.
+// The stack with zeros from `depth` on.
 fn cut(stack: [u16; 12], depth: usize) -> [u16; 12]
-    requires { ⌜ depth ≤ 12 ⌝ }
-    ensures { λ r. ⌜ r ≡ take depth stack ++ replicate (12 - depth) 0 ⌝ }
+    requires { ⌜ depth ≤ stackSize ⌝ }
+    ensures { λ r. ⌜ r ≡ take depth stack ++ replicate (stackSize - depth) 0 ⌝ }
 {
     let mut s = stack;
-    let count = 12 - depth;
+    let count = Machine::STACK - depth;
     let mut i = 0;
     while i < count {
         s[depth + i] = 0;
@@ -293,28 +281,30 @@ fn cut(stack: [u16; 12], depth: usize) -> [u16; 12]
     s
 }
 
+// One less, and 0 stays 0.
 fn less_one(n: usize) -> usize
     ensures { λ r. ⌜ r ≡ n - 1 ⌝ }
 {
     if n == 0 { 0 } else { n - 1 }
 }
 
+// The last return address is put back, since a return took it away, and nothing stays above it, since a call added an entry.
 fn stack_at(place: &[u8], stack: [u16; 12]) -> [u16; 12]
     requires { ⌜ length (now place) ≡ placeSize ⌝ }
-    requires { ⌜ byteAt (now place) 22 ≤ 12 ⌝ }
+    requires { ⌜ byteAt (now place) atDepth ≤ stackSize ⌝ }
     ensures { λ r. ⌜ r ≡ stackAt (now (place .entry)) stack ⌝ }
 {
-    let depth = wide(place[AT_DEPTH]) as usize;
+    let depth = depth_at(place) as usize;
     let top = less_one(depth);
     let mut s = stack;
-    s[top] = word_at(place, AT_LAST);
+    s[top] = memory::word_at(place, AT_LAST);
     cut(s, depth)
 }
 
-// The state that stood before the action, from the state after it.
-pub fn machine_at(place: &[u8], m: Machine) -> Machine
+// The state before the action. Of the state after it only the stack below the last return address is used.
+fn machine_at(place: &[u8], m: Machine) -> Machine
     requires { ⌜ length (now place) ≡ placeSize ⌝ }
-    requires { ⌜ byteAt (now place) 22 ≤ 12 ⌝ }
+    requires { ⌜ byteAt (now place) atDepth ≤ stackSize ⌝ }
     ensures { λ r. ⌜ r ≡ machineAt (now (place .entry)) m ⌝ }
 {
     let v = registers_at(place);
@@ -322,10 +312,10 @@ pub fn machine_at(place: &[u8], m: Machine) -> Machine
     let stack = stack_at(place, after);
     Machine {
         v,
-        i: word_at(place, AT_I),
-        pc: word_at(place, AT_PC),
+        i: memory::word_at(place, AT_I),
+        pc: memory::word_at(place, AT_PC),
         stack,
-        depth: place[AT_DEPTH],
+        depth: depth_at(place),
         timers: Timers {
             delay: place[AT_DELAY],
             tone: place[AT_TONE],

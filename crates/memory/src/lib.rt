@@ -1,9 +1,10 @@
-// Bytes laid into a buffer and cleared, and the instructions that write and read memory: FX33, FX55 and FX65.
+// Bytes laid into a buffer and cleared, numbers of two bytes, and the instructions that write and read memory: FX33, FX55 and FX65.
 ghost use mathlib.Core.Path.{_≡_};
 ghost use mathlib.Core.List.{_++_};
-ghost use Prim.Native.Nat.{_+_, _-_, _≤_};
+ghost use Prim.Native.Nat.{_+_, _-_, _/_, _%_, _≤_, _<_};
 ghost use lib.ListN.{length, take, drop, replicate};
 ghost use Rattle.rules.specs.Memory.{over, digitsOf};
+ghost use Rattle.rules.specs.Record.{wordAt};
 
 // Lays the bytes of `new` into a buffer, from `at` on.
 pub fn lay(buffer: &mut [u8], at: usize, new: &[u8])
@@ -29,6 +30,36 @@ pub fn clear(buffer: &mut [u8], at: usize)
         i += 1;
     }
 }
+
+// ---- a number of two bytes, the high one first
+
+pub fn high(n: u16) -> u8
+    ensures { λ r. ⌜ r ≡ n / 256 % 256 ⌝ }
+{
+    (n / 256) as u8
+}
+
+pub fn low(n: u16) -> u8
+    ensures { λ r. ⌜ r ≡ n % 256 ⌝ }
+{
+    (n % 256) as u8
+}
+
+// A byte of a slice is widened by a call, so that it needs no proof that it fits.
+fn wide(x: u8) -> u16
+    ensures { λ r. ⌜ (r ≡ x) × (r < 256) ⌝ }
+{
+    x as u16
+}
+
+pub fn word_at(buffer: &[u8], at: usize) -> u16
+    requires { ⌜ at + 1 < length (now buffer) ⌝ }
+    ensures { λ r. ⌜ r ≡ wordAt (now (buffer .entry)) at ⌝ }
+{
+    256 * wide(buffer[at]) + wide(buffer[at + 1])
+}
+
+// ---- the instructions
 
 // FX33: hundreds, tens and ones.
 pub fn decimal(memory: &mut [u8], at: usize, n: u8)

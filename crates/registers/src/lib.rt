@@ -12,21 +12,21 @@ use rules::Wait;
 
 // ---- numbers
 
-// 1 where the test holds, and else 0
+// 1 where the test holds, and else 0.
 pub fn flag(test: bool) -> u8
     ensures { λ r. ⌜ r ≡ pick test 1 0 ⌝ }
 {
     if test { 1 } else { 0 }
 }
 
-// a - b on a byte
+// a - b, where a byte that passes 00 goes on at FF.
 fn difference(a: u8, b: u8) -> u8
     ensures { λ r. ⌜ r ≡ (a + 256 - b) % 256 ⌝ }
 {
     std::num::wrapping_sub_u8(a, b)
 }
 
-// whether key k is down
+// Whether key k is down; there is none above F.
 fn down(keys: u16, k: u8) -> bool
     ensures { λ r. ⌜ r ≡ state.down keys k ⌝ }
 {
@@ -35,7 +35,7 @@ fn down(keys: u16, k: u8) -> bool
 
 // ---- a part of the machine read, and a part changed
 
-// VX
+// VX, whose number is the low four bits of x.
 pub fn get(m: Machine, x: u8) -> u8
     ensures { λ r. ⌜ r ≡ reg m x ⌝ }
 {
@@ -49,7 +49,7 @@ pub fn up_to(x: u8) -> usize
     (x % 16) as usize + 1
 }
 
-// the result to VX, and on
+// The result goes to VX, and PC goes on.
 pub fn put(m: Machine, x: u8, b: u8) -> Machine
     requires { ⌜ m .pc ≤ 4094 ⌝ }
     ensures { λ r. ⌜ r ≡ state.onward (withReg x b m) ⌝ }
@@ -60,7 +60,7 @@ pub fn put(m: Machine, x: u8, b: u8) -> Machine
     m
 }
 
-// the result to VX, then the flag to VF, and on
+// The flag is written after the result, so it wins where X is F.
 fn put_both(m: Machine, x: u8, b: u8, f: u8) -> Machine
     requires { ⌜ m .pc ≤ 4094 ⌝ }
     ensures { λ r. ⌜ r ≡ state.onward (withReg 0xF f (withReg x b m)) ⌝ }
@@ -73,7 +73,6 @@ fn put_both(m: Machine, x: u8, b: u8, f: u8) -> Machine
     m
 }
 
-// PC
 fn jump(m: Machine, a: u16) -> Machine
     ensures { λ r. ⌜ r ≡ withPc a m ⌝ }
 {
@@ -82,7 +81,7 @@ fn jump(m: Machine, a: u16) -> Machine
     m
 }
 
-// PC past this instruction by one number of bytes where the test holds, and else by the other
+// PC grows by one number where the test holds, and else by the other.
 fn skip(m: Machine, test: bool, yes: u16, no: u16) -> Machine
     requires { ⌜ (m .pc ≤ 4094) × (yes ≤ 4) × (no ≤ 4) ⌝ }
     ensures { λ r. ⌜ r ≡ withPc (m .pc + pick test yes no) m ⌝ }
@@ -96,7 +95,7 @@ fn skip(m: Machine, test: bool, yes: u16, no: u16) -> Machine
     m
 }
 
-// PC past this instruction
+// PC goes past this instruction.
 pub fn onward(m: Machine) -> Machine
     requires { ⌜ m .pc ≤ 4094 ⌝ }
     ensures { λ r. ⌜ r ≡ state.onward m ⌝ }
@@ -106,7 +105,7 @@ pub fn onward(m: Machine) -> Machine
     m
 }
 
-// I, and on
+// I is set, and PC goes on.
 pub fn point(m: Machine, i: u16) -> Machine
     requires { ⌜ m .pc ≤ 4094 ⌝ }
     ensures { λ r. ⌜ r ≡ state.onward (withI i m) ⌝ }
@@ -117,7 +116,7 @@ pub fn point(m: Machine, i: u16) -> Machine
     m
 }
 
-// the timers, and on
+// The timers are set, and PC goes on.
 fn set_timers(m: Machine, delay: u8, tone: u8) -> Machine
     requires { ⌜ m .pc ≤ 4094 ⌝ }
     ensures { λ r. ⌜ r ≡ state.onward (withTimers (record { delay = delay; tone = tone }) m) ⌝ }
@@ -147,6 +146,7 @@ fn with_wait(m: Machine, w: Wait) -> Machine
     }
 }
 
+// Every instruction but FX0A leaves the wait so.
 pub fn idle(m: Machine) -> Machine
     ensures { λ r. ⌜ r ≡ withWait Idle m ⌝ }
 {
@@ -198,7 +198,7 @@ pub fn simple(s: Simple, m: Machine, keys: u16, random: u8) -> Machine
     }
 }
 
-// 2MMM
+// 2MMM: the address behind this instruction is the last return address.
 pub fn called(m: Machine, a: u16) -> Machine
     requires { ⌜ (m .pc ≤ 4094) × (m .depth < 12) ⌝ }
     ensures { λ r. ⌜ r ≡ state.called a m ⌝ }
@@ -211,7 +211,7 @@ pub fn called(m: Machine, a: u16) -> Machine
     m
 }
 
-// 00EE
+// 00EE: the last return address is taken, and its entry is 0 again.
 pub fn returned(m: Machine) -> Machine
     requires { ⌜ (0 < m .depth) × (m .depth ≤ 12) ⌝ }
     ensures { λ r. ⌜ r ≡ state.returned m ⌝ }
@@ -238,7 +238,7 @@ fn lowest(keys: u16) -> u8
     k
 }
 
-// FX0A
+// FX0A: the lowest key that is down is held until it is up.
 pub fn awaited(x: u8, keys: u16, m: Machine) -> Machine
     requires { ⌜ m .pc ≤ 4094 ⌝ }
     ensures { λ r. ⌜ r ≡ state.awaited x keys m (m .wait) ⌝ }

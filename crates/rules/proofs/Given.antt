@@ -19,6 +19,10 @@ use Rattle.rules.proofs.OnlyOne.{one-outcome}
 abbrev pub Back : Answer → Outcome → World → Type 0
 Back a o w = Gives a o (w .machine) (w .trail) (w .memory) (w .picture) (w .history)
 
+-- handed back as it is
+pub handed : (n : ℕ) (w : World) (o : Outcome) → number o ≡ n → Back (record { refusal = n; world = w }) o w
+handed n w o e = record { says = e; machine = refl; trail = refl; memory = refl; picture = refl; history = refl }
+
 never : (r : Refusal) → Refused r ≡ Done → ⊥
 never r e = let z : _≡_ {A = ℕ} 0 1 = cc in omega arith
 
@@ -29,7 +33,7 @@ module _ (n : ℕ) (new w : World) where
   pub given-refused : (r : Refusal) → number (Refused r) ≡ n → Back (answered n new w) (Refused r) w
   given-refused r e =
       by-test (λ (a : Answer). Back a (Refused r) w) n 0 (λ z. absurd (refused-some r (e ∙ z)))
-      (λ ne. record { says = e; machine = refl; trail = refl; memory = refl; picture = refl; history = refl })
+      (λ ne. handed n w (Refused r) e)
 
   pub answered-done : n ≡ 0 → answered n new w ≡ record { refusal = 0; world = new }
   answered-done z = by-test (λ (a : Answer). a ≡ record { refusal = 0; world = new }) n 0 (λ e. refl) (λ ne. absurd (ne z))

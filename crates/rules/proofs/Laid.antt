@@ -7,7 +7,7 @@ use native.Mathlib.Numerals.{add-one}
 use native.Mathlib.Omega.{arith}
 use borrow.Rule.Slice.PartMut.{putMid, post-is}
 use Rattle.rules.specs.Memory.{over}
-use lib.ListN.{length, take, drop, getD, set, length-set, length-append, length-take, take-append-drop, drop-of-length-le}
+use lib.ListN.{length, take, drop, getD, set, replicate, getD-replicate, length-set, length-append, length-take, take-append-drop, drop-of-length-le}
 use lib.Seq.{take-suc, take-suc-set, take-length, take-at, drop-set-lt, drop-drop}
 
 pub record Laid (l₀ : List ℕ) (at : ℕ) (s : List ℕ) (n : ℕ) (l : List ℕ) (i : ℕ) : Type 0 where
@@ -48,6 +48,11 @@ module _ (l₀ : List ℕ) (at : ℕ) (s : List ℕ) (n : ℕ) where
   -- and nothing stands behind them where they reach the end
   pub full : (l : List ℕ) (i : ℕ) → Laid l₀ at s n l i → n ≤ i → at + n ≡ length l₀ → l ≡ take at l₀ ++ s
   full l i p h f = laid l i p h ∙ rw (drop-of-length-le l₀ {i = at + n} (omega arith), append-nil)
+
+-- one zero more
+pub more-zeros : (l₀ : List ℕ) (at n : ℕ) (l : List ℕ) (i : ℕ) → Laid l₀ at (replicate n 0) n l i → i < n
+    → Laid l₀ at (replicate n 0) n (set l (at + i) 0) (i + 1)
+more-zeros l₀ at n l i p h = more l₀ at (replicate n 0) n l i 0 p h (getD-replicate _ _ _ _ h)
 
 -- a piece x laid over p from `at` on, behind a beginning b
 pub behind : (p q y x b : List ℕ) (at n : ℕ) → q ≡ over p at y (length y) → at ≤ length p → y ≡ x → length x ≡ n → take at p ≡ b

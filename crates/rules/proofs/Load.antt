@@ -55,15 +55,16 @@ loaded-below program h =
 loaded-starts : (program history : List ℕ) → Below 256 program → length program ≤ 3584 → 288 ≤ length history → length history ≤ 65536
     → TypedBoard (boardOf (loaded program history)) × Start (loaded program history)
 loaded-starts program history h fits least most =
-    let long : length (zeroes (length history)) ≡ length history = length-replicate {A = ℕ} (length history) 0 in
-    (record { machine = fresh-typed; memory = loaded-below program h; picture = below-zeros 256 (omega arith) },
-    record {
-      fits = and-both (and-both (eq-eqb _ _ (loaded-length program fits)) (eq-eqb _ _ (length-replicate {A = ℕ} 256 0)))
-          (rw long (and-both (le-leb _ _ least) (le-leb _ _ most)));
-      sound = refl;
-      next = rw long (omega arith);
-      empty = refl;
-    })
+    let long : length (zeroes (length history)) ≡ length history = length-replicate {A = ℕ} (length history) 0 in (
+      record { machine = fresh-typed; memory = loaded-below program h; picture = below-zeros 256 (omega arith) },
+      record {
+        fits = and-both (and-both (eq-eqb _ _ (loaded-length program fits)) (eq-eqb _ _ (length-replicate {A = ℕ} 256 0)))
+            (rw long (and-both (le-leb _ _ least) (le-leb _ _ most)));
+        sound = refl;
+        next = rw long (omega arith);
+        empty = refl;
+      },
+    )
 
 pub load-starts : LoadStarts
 unfolding load loadRefusal

@@ -85,6 +85,24 @@ ready-soundly w h =
     and-both (good-sound (w .machine) (h .good .machine))
     (and-both (lt-ltb (w .trail .next) (places (w .history)) (h .next)) (le-leb (w .trail .kept) (places (w .history)) (h .limit)))
 
+pub ready-typed : (w : World) → Ready w → TypedBoard (boardOf w)
+ready-typed w h =
+    let m = h .good .machine in
+    record {
+      machine = record {
+        vs = m .v .size;
+        v = m .v .below;
+        i = m .i;
+        pc = m .pc;
+        entries = m .calls .size;
+        stack = m .calls .below;
+        delay = m .timers .delay;
+        tone = m .timers .tone;
+      };
+      memory = h .good .memory .below;
+      picture = h .good .picture .below;
+    }
+
 -- ---- an accepted action
 
 pub next-below : (r n : ℕ) → n < r → nextPlace r n < r

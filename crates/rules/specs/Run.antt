@@ -7,7 +7,7 @@ use lib.Dec.{eqb, leb}
 use Rattle.rules.specs.declared.Refusal.the-variants.{BufferLength, Unsound}
 use Rattle.rules.specs.Number.{pick, unless}
 use Rattle.rules.specs.Refusal.{numberOf}
-use Rattle.rules.specs.World.{World, Answer, buffersFit, soundly, answered}
+use Rattle.rules.specs.World.{World, Answer, buffersFit, soundly}
 use Rattle.rules.specs.Call.{step, tick, ticked, back}
 
 -- three lists of one length, 0 to 4,096
@@ -48,7 +48,7 @@ runRefusal ticks keys randoms w =
 unfoldable pub run : List ℕ → List ℕ → List ℕ → World → Ran
 run ticks keys randoms w =
     let refusal = runRefusal ticks keys randoms w in
-    pick (eqb refusal 0) (runFrom 0 ticks keys randoms w) (record { accepted = 0; answer = answered refusal w w })
+    pick (eqb refusal 0) (runFrom 0 ticks keys randoms w) (record { accepted = 0; answer = record { refusal = refusal; world = w } })
 
 -- ---- a play
 
@@ -81,14 +81,17 @@ unfoldable pub allMoves : List ℕ → Bool
 allMoves [] = true
 allMoves (b ∷ bs) = leb b 2 && allMoves bs
 
+abbrev pub movesFit : List ℕ → List ℕ → List ℕ → Bool
+movesFit moves keys randoms = listsFit moves keys randoms && allMoves moves
+
 -- 9 and 10 first, for all its moves; a byte that is no move makes a list of moves a wrong one
 unfoldable pub playRefusal : List ℕ → List ℕ → List ℕ → World → ℕ
 playRefusal moves keys randoms w =
-    unless (buffersFit w && listsFit moves keys randoms && allMoves moves) (numberOf BufferLength)
+    unless (buffersFit w && movesFit moves keys randoms) (numberOf BufferLength)
     (unless (soundly w) (numberOf Unsound)
     0)
 
 unfoldable pub play : List ℕ → List ℕ → List ℕ → World → Answer
 play moves keys randoms w =
     let refusal = playRefusal moves keys randoms w in
-    pick (eqb refusal 0) (playFrom (movesOf moves keys randoms) (unrefused w)) (answered refusal w w)
+    pick (eqb refusal 0) (playFrom (movesOf moves keys randoms) (unrefused w)) (record { refusal = refusal; world = w })

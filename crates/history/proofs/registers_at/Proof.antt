@@ -16,4 +16,4 @@ returns c =
 
 pub registers-at-spec : {M : Type 1} → statement M
 registers-at-spec =
-    tie.close (tie.spec (λ c. search needs) (λ c. search needs) (λ c. search needs) (λ c. search needs) (λ c κs. search needs) returns)
+    tie.close (tie.spec (search needs) (search needs) (search needs) (search needs) (search needs) returns)

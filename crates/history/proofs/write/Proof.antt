@@ -42,4 +42,4 @@ returns c =
 
 pub write-spec : {M : Type 1} → statement M
 write-spec =
-    tie.close (tie.spec (λ c κs. search needs) (λ c κs. search needs) (λ c. search needs) (λ c κs. search needs) (λ c. search needs) lay-requires-2 (λ c. search needs) (λ c κs. search needs) (λ c κs. search needs) (λ c. search needs) (λ c κs. search needs) (λ c. search needs) returns)
+    tie.close (tie.spec (search needs) (search needs) (search needs) (search needs) (λ c. search needs) lay-requires-2 (search needs) (search needs) (search needs) (search needs) (search needs) (search needs) returns)

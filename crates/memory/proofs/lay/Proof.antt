@@ -1,4 +1,4 @@
--- The invariant: i bytes are laid, and the rest stands as it was.
+-- The loop's invariant: i bytes are laid, and the rest stands as it was.
 use mathlib.Core.Path.{refl}
 use Prim.Native.Nat.{_-_}
 use native.Mathlib.Omega.{arith}
@@ -14,10 +14,12 @@ abbrev μ-loop : tie.MeasureT-loop
 μ-loop buffer₀ at new i₀ buffer i = length new - i
 
 loop-again : tie.Need-loop-again Inv-loop μ-loop
-loop-again c = more _ _ _ _ _ _ _ (c .before .before .loop .inv) (c .before .loop-test .taken) refl
+loop-again c = more _ _ _ _ _ _ _ (c .before .before .loop .inv) (omega arith) refl
 
 returns : tie.Need-returns Inv-loop μ-loop
-returns c = laid _ _ _ _ _ _ (c .before .loop .inv) (c .loop-test .left)
+returns c = laid _ _ _ _ _ _ (c .before .loop .inv) (omega arith)
 
 pub lay-spec : {M : Type 1} → statement M
-lay-spec = tie.close (tie.spec Inv-loop μ-loop (λ c. none _ _ _ _ refl (c .pre)) (λ c. omega arith) (λ c. omega arith) (λ c. omega arith) (λ c. omega arith) (λ c. omega arith) loop-again (λ c. c .before .loop .inv .same) returns)
+lay-spec =
+    tie.close (tie.spec Inv-loop μ-loop (λ c. none _ _ _ _ refl (c .pre))
+    (λ c. omega arith) (λ c. omega arith) (λ c. omega arith) (λ c. omega arith) (λ c. omega arith) loop-again (λ c. c .before .loop .inv .same) returns)

@@ -1,4 +1,4 @@
--- Each arm is its callee's promise: the instruction that was matched, and what the callees ensure, rewritten.
+-- Each arm by the instruction that was matched, and what the callees ensure.
 use native.Mathlib.Omega.{arith}
 use borrow.Author.Needs.{needs}
 use Rattle.registers.proofs.simple.Statement.{statement}

@@ -1,45 +1,28 @@
+-- The invariant: what is left from i on is all moves exactly if the whole list is.
+use mathlib.Core.Path.{_≡_, refl, sym, _∙_}
+use Prim.Native.Nat.{_-_, _≤_}
+use native.Mathlib.Omega.{arith}
+use borrow.Author.Needs.{needs}
+use lib.ListN.{length, drop}
+use Rattle.rules.specs.Run.{allMoves}
+use Rattle.chip8.proofs.Moves.{no-move, a-move, no-more}
 use Rattle.chip8.proofs.playing.all_moves.Statement.{statement}
 use Rattle.chip8.proofs.playing.all_moves.Tie as tie
-use Rattle.chip8.proofs.playing.all_moves.Reads as reads
-use Rattle.chip8.proofs.playing.all_moves.Lts as lts
 
 abbrev Inv-loop : tie.InvT-loop
-Inv-loop moves i₀ i = ?
+Inv-loop moves i₀ i = (i ≤ length moves) × (allMoves moves ≡ allMoves (drop i moves))
 
 abbrev μ-loop : tie.MeasureT-loop
-μ-loop moves i₀ i = ?
-
-loop-holds : tie.Need-loop-holds Inv-loop μ-loop
-loop-holds c = ?
-
-shared-slice-read-if1 : tie.Need-shared-slice-read-if1 Inv-loop μ-loop
-shared-slice-read-if1 c = ?
+μ-loop moves i₀ i = length moves - i
 
 returns : tie.Need-returns Inv-loop μ-loop
-returns c = ?
-
-add-i : tie.Need-add-i Inv-loop μ-loop
-add-i c = ?
-
-loop-less : tie.Need-loop-less Inv-loop μ-loop
-loop-less c = ?
+returns c = let loop = c .before .before .before .loop in sym (loop .inv .1 ∙ no-move _ (loop .i) (c .before .before .loop-test .taken) (c .if1 .taken))
 
 loop-again : tie.Need-loop-again Inv-loop μ-loop
-loop-again c = ?
-
-returns-2 : tie.Need-returns-2 Inv-loop μ-loop
-returns-2 c = ?
+loop-again c = let loop = c .before .before .before .loop in (omega arith, loop .inv .1 ∙ a-move _ (loop .i) (c .before .before .loop-test .taken) (c .if1 .left))
 
 pub all-moves-spec : {M : Type 1} → statement M
 all-moves-spec =
     tie.close
-    (tie.spec
-    Inv-loop
-    μ-loop
-    loop-holds
-    shared-slice-read-if1
-    returns
-    add-i
-    loop-less
-    loop-again
-    returns-2)
+    (tie.spec Inv-loop μ-loop (λ c. (omega arith, refl)) (λ c. omega arith) returns (λ c. omega arith) (λ c. omega arith) loop-again
+    (λ c. sym (c .before .loop .inv .1 ∙ no-more _ (c .before .loop .i) (c .loop-test .left))))

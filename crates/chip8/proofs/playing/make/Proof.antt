@@ -1,35 +1,19 @@
+-- Each arm is the promise of its call.
 use borrow.Author.Needs.{needs}
+use borrow.Author.Tests.{ne-eqb}
 use Rattle.chip8.proofs.playing.make.Statement.{statement}
 use Rattle.chip8.proofs.playing.make.Tie as tie
-use Rattle.chip8.proofs.playing.make.Reads as reads
-use Rattle.chip8.proofs.playing.make.Lts as lts
-use Rattle.chip8.proofs.back.Reads as back-reads
-use Rattle.chip8.proofs.step.Reads as step-reads
-use Rattle.chip8.proofs.tick.Reads as tick-reads
 
 returns : tie.Need-returns
-returns c = ?
+returns c = rw (c .before .before .before .before .before .before .before .before .before .before .match .keys1) (c .before .before .before .before .before .before .step .ensures)
 
 returns-2 : tie.Need-returns-2
-returns-2 c = ?
+returns-2 c = let a = c .before .before .before .before .before .before .before .before .args in rw (c .before .before .before .before .match .keys2) (c .before .before .tick .ensures (a .memory .now) (a .picture .now))
 
 returns-3 : tie.Need-returns-3
-returns-3 c = ?
+returns-3 c =
+    let rest = c .before .before .before .before .before .before .before .before .match .rest in
+    simp (ne-eqb _ _ (rest .1), ne-eqb _ _ (rest .0 .1)) (c .before .before .before .before .back .ensures)
 
 pub make-spec : {M : Type 1} → statement M
-make-spec =
-    tie.close
-    (tie.spec
-    (search needs)
-    (search needs)
-    (search needs)
-    (search needs)
-    (search needs)
-    (search needs)
-    returns
-    (search needs)
-    returns-2
-    (search needs)
-    (search needs)
-    (search needs)
-    returns-3)
+make-spec = tie.close (tie.spec (search needs) (search needs) (search needs) (search needs) (search needs) (search needs) returns (search needs) returns-2 (search needs) (search needs) (search needs) returns-3)

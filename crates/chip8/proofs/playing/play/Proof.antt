@@ -1,70 +1,39 @@
+-- The invariant: after i moves, what is still to be done from here gives the same answer.
+use mathlib.Core.Path.{_≡_, refl}
+use Prim.Native.Nat.{_-_}
+use native.Mathlib.Omega.{arith}
+use borrow.Author.Needs.{needs}
+use lib.ListN.{length}
+use Rattle.rules.specs.Refusal.{number}
+use Rattle.rules.specs.World.{world}
+use Rattle.chip8.proofs.Entries.{lists-same}
+use Rattle.chip8.proofs.Moves.{Playing, played, moved}
 use Rattle.chip8.proofs.playing.play.Statement.{statement}
 use Rattle.chip8.proofs.playing.play.Tie as tie
-use Rattle.chip8.proofs.playing.play.Reads as reads
-use Rattle.chip8.proofs.playing.play.Lts as lts
-use Rattle.chip8.proofs.playing.make.Reads as make-reads
 
 abbrev Inv-loop : tie.InvT-loop
-Inv-loop memory₀ picture₀ history₀ moves keys randoms last₀ i₀ memory picture history last i = ?
+Inv-loop memory₀ picture₀ history₀ moves keys randoms last₀ i₀ memory picture history last i =
+    (length memory ≡ length memory₀)
+    × (length picture ≡ length picture₀)
+    × (length history ≡ length history₀)
+    × Playing moves keys randoms (world (last₀ .machine) (last₀ .trail) memory₀ picture₀ history₀)
+    (record { refusal = number (last .outcome); world = world (last .machine) (last .trail) memory picture history }) i
 
 abbrev μ-loop : tie.MeasureT-loop
-μ-loop memory₀ picture₀ history₀ moves keys randoms last₀ i₀ memory picture history last i = ?
+μ-loop memory₀ picture₀ history₀ moves keys randoms last₀ i₀ memory picture history last i = length moves - i
 
 loop-holds : tie.Need-loop-holds Inv-loop μ-loop
-loop-holds c = ?
-
-shared-slice-read-make : tie.Need-shared-slice-read-make Inv-loop μ-loop
-shared-slice-read-make c = ?
-
-mul-make : tie.Need-mul-make Inv-loop μ-loop
-mul-make c = ?
-
-shared-slice-read-make-2 : tie.Need-shared-slice-read-make-2 Inv-loop μ-loop
-shared-slice-read-make-2 c = ?
-
-shared-slice-read-make-3 : tie.Need-shared-slice-read-make-3 Inv-loop μ-loop
-shared-slice-read-make-3 c = ?
-
-make-requires : tie.Need-make-requires Inv-loop μ-loop
-make-requires c κs = ?
-
-add-i : tie.Need-add-i Inv-loop μ-loop
-add-i c = ?
-
-loop-less : tie.Need-loop-less Inv-loop μ-loop
-loop-less c = ?
+loop-holds c = (refl, refl, refl, record { lists = lists-same _ _ _ (c .before .before .before .before .before .before .pre); inside = omega arith; same = refl })
 
 loop-again : tie.Need-loop-again Inv-loop μ-loop
-loop-again c = ?
-
-same-length : tie.Need-same-length Inv-loop μ-loop
-same-length c = ?
-
-same-length-2 : tie.Need-same-length-2 Inv-loop μ-loop
-same-length-2 c = ?
-
-same-length-3 : tie.Need-same-length-3 Inv-loop μ-loop
-same-length-3 c = ?
-
-returns : tie.Need-returns Inv-loop μ-loop
-returns c = ?
+loop-again c =
+    let loop = c .before .before .before .before .before .before .before .before .before .before .before .before .before .before .before .before .loop in
+    (search needs, search needs, search needs, moved _ _ _ _ _ _ _ _ _ _ _ _ (loop .inv .3) (c .before .before .before .before .before .before .before .before .before .before .before .before .before .before .before .loop-test .taken) (c .before .before .before .before .before .before .make .ensures))
 
 pub play-spec : {M : Type 1} → statement M
 play-spec =
     tie.close
-    (tie.spec
-    Inv-loop
-    μ-loop
-    loop-holds
-    shared-slice-read-make
-    mul-make
-    shared-slice-read-make-2
-    shared-slice-read-make-3
-    make-requires
-    add-i
-    loop-less
-    loop-again
-    same-length
-    same-length-2
-    same-length-3
-    returns)
+    (tie.spec Inv-loop μ-loop loop-holds (λ c. omega arith) (λ c. omega arith) (λ c. omega (arith, c .before .before .before .before .before .before .before .before .loop .inv .3 .lists .keys))
+    (λ c. omega (arith, c .before .before .before .before .before .before .before .before .before .loop .inv .3 .lists .randoms)) (search needs) (λ c. omega (arith, c .before .before .before .before .before .before .before .before .before .before .before .before .before .before .before .before .loop .inv .3 .lists .few)) (λ c. omega arith)
+    loop-again (λ c. c .before .loop .inv .0) (λ c. c .before .loop .inv .1) (λ c. c .before .loop .inv .2)
+    (λ c. played _ _ _ _ _ _ _ _ _ _ _ (c .before .loop .inv .3) (c .loop-test .left)))

@@ -44,8 +44,7 @@ put-back-requires c κs =
     let w = given s in
     let lent = last-lent w _ _ (c .before .before .before .before .before .before .before .places .ensures) (c .before .before .before .before .before .before .place-before .ensures .0) in
     let read = rw lent at (c .before .before .before .before .read .ensures) in
-    let intact : damaged (lastRecord w) (w .machine .depth) ≡ false = sym (flag-read (lastRecord w) (w .machine) _ read) ∙ c .before .before .before .if2 .left in
-    (
+    let intact : damaged (lastRecord w) (w .machine .depth) ≡ false = sym (flag-read (lastRecord w) (w .machine) _ read) ∙ c .before .before .before .if2 .left in (
       simp (length-take, length-drop) (omega (arith, c .before .before .before .before .before .before .place-before .ensures .1, c .before .before .before .before .before .before .before .places .ensures)),
       s .pre .good .memory .size,
       s .pre .good .picture .size,

@@ -1,46 +1,40 @@
+-- The invariant: the ticks that are left, from here, lead to the same world, beside any memory and picture.
+use mathlib.Core.Path.{_≡_, refl, sym, ap, _∙_}
+use mathlib.Core.List.{List, []}
+use Prim.Native.Nat.{ℕ, _-_}
+use native.Mathlib.Omega.{arith}
+use borrow.Author.Needs.{needs}
+use lib.ListN.{length}
+use Rattle.rules.specs.World.{world}
+use Rattle.rules.specs.Run.{tickedBy}
+use Rattle.chip8.specs.Inner.{Tickable}
+use Rattle.chip8.proofs.Ticks.{gives-world, world-gives, again-tickable, one-less}
 use Rattle.chip8.proofs.running.ticks_of.Statement.{statement}
 use Rattle.chip8.proofs.running.ticks_of.Tie as tie
-use Rattle.chip8.proofs.running.ticks_of.Reads as reads
-use Rattle.chip8.proofs.running.ticks_of.Lts as lts
-use Rattle.chip8.proofs.moving.tick.Reads as tick-reads
 
 abbrev Inv-loop : tie.InvT-loop
-Inv-loop history₀ count m₀ t₀ left₀ history m t left = ?
+Inv-loop history₀ count m₀ t₀ left₀ history m t left =
+    (length history ≡ length history₀)
+    × Tickable m t history
+    × ((mem pic : List ℕ) → tickedBy left (world m t mem pic history) ≡ tickedBy count (world m₀ t₀ mem pic history₀))
 
 abbrev μ-loop : tie.MeasureT-loop
-μ-loop history₀ count m₀ t₀ left₀ history m t left = ?
-
-loop-holds : tie.Need-loop-holds Inv-loop μ-loop
-loop-holds c = ?
-
-tick-requires : tie.Need-tick-requires Inv-loop μ-loop
-tick-requires c κs = ?
-
-sub-left : tie.Need-sub-left Inv-loop μ-loop
-sub-left c = ?
-
-loop-less : tie.Need-loop-less Inv-loop μ-loop
-loop-less c = ?
+μ-loop history₀ count m₀ t₀ left₀ history m t left = left
 
 loop-again : tie.Need-loop-again Inv-loop μ-loop
-loop-again c = ?
-
-same-length : tie.Need-same-length Inv-loop μ-loop
-same-length c = ?
+loop-again c =
+    let tick = c .before .before .before .before .tick in
+    let inv = c .before .before .before .before .before .before .before .loop .inv in
+    let same : length (tick .last .1 .1 .0) ≡ length (c .before .before .before .before .before .before .before .loop .history) = search needs in (
+      same ∙ inv .0,
+      again-tickable _ _ _ _ _ _ _ (inv .1) same (tick .ensures [] []),
+      λ mem pic. ap (tickedBy (c .before .before .before .before .before .before .before .loop .left - 1)) (gives-world _ _ _ _ _ _ _ (tick .ensures mem pic)) ∙ sym (one-less (c .before .before .before .before .before .before .before .loop .left) _ (c .before .before .before .before .before .before .loop-test .taken)) ∙ inv .2 mem pic,
+    )
 
 returns : tie.Need-returns Inv-loop μ-loop
-returns c = ?
+returns c mem pic =
+    let none : c .before .loop .left ≡ 0 = omega arith in
+    world-gives _ _ (rw none at (c .before .loop .inv .2 mem pic))
 
 pub ticks-of-spec : {M : Type 1} → statement M
-ticks-of-spec =
-    tie.close
-    (tie.spec
-    Inv-loop
-    μ-loop
-    loop-holds
-    tick-requires
-    sub-left
-    loop-less
-    loop-again
-    same-length
-    returns)
+ticks-of-spec = tie.close (tie.spec Inv-loop μ-loop (λ c. (refl, c .before .pre, λ mem pic. refl)) (λ c κs. c .before .before .loop .inv .1) (λ c. omega arith) (λ c. omega arith) loop-again (λ c. c .before .loop .inv .0) returns)

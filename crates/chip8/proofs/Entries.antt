@@ -1,0 +1,105 @@
+-- A run, entry by entry: what is still to be done from here gives the same answer.
+use mathlib.Core.Path.{_≡_, refl, sym, ap, _∙_}
+use mathlib.Core.Bool.{true, _&&_, and-eq-true-iff}
+use mathlib.Core.List.{List, _∷_}
+use Prim.Native.Nat.{ℕ, _+_, _≤_, _<_}
+use native.Mathlib.Numerals.{add-one}
+use native.Mathlib.Omega.{arith}
+use lib.ListN.{length, drop, getD, drop-of-length-le}
+use lib.Seq.{drop-cons}
+use lib.Dec.{eqb, leb}
+use borrow.Author.Tests.{leb-true, eqb-true, eq-eqb, ne-eqb}
+use Rattle.rules.specs.declared.Machine.{Machine}
+use Rattle.rules.specs.declared.Trail.{Trail}
+use Rattle.rules.specs.declared.Refusal.{Refusal}
+use Rattle.rules.specs.declared.Outcome.the-variants.{Done, Refused}
+use Rattle.rules.specs.Number.{pick}
+use Rattle.rules.specs.Refusal.{number}
+use Rattle.rules.specs.World.{World, Answer, world}
+use Rattle.rules.specs.Call.{step}
+use Rattle.rules.specs.Run.{Ran, tickedBy, runFrom, listsFit, run, runRefusal}
+use Rattle.rules.specs.Promise.{Gives, GivesRun}
+use Rattle.rules.proofs.Given.{tests, handed, refused-some}
+use Rattle.rules.proofs.Ready.{Ready, step-ready, ticks-ready}
+use Rattle.chip8.proofs.Ticks.{gives-world, world-gives}
+
+pub record SameLength (first ks rs : List ℕ) : Type 0 where
+  pub keys : length ks ≡ length first
+  pub randoms : length rs ≡ length first
+  pub few : length first ≤ 4096
+
+pub lists-same : (first keys randoms : List ℕ) → listsFit first keys randoms ≡ true → SameLength first keys randoms
+lists-same first keys randoms e =
+    let ends = eqb (length first) (length keys) && eqb (length keys) (length randoms) in
+    let all = and-eq-true-iff ends (leb (length first) 4096) .0 e in
+    let both = and-eq-true-iff (eqb (length first) (length keys)) (eqb (length keys) (length randoms)) .0 (all .0) in
+    let k = eqb-true (length first) (length keys) (both .0) in
+    let r = eqb-true (length keys) (length randoms) (both .1) in
+    record { keys = sym k; randoms = sym (k ∙ r); few = leb-true _ _ (all .1) }
+
+-- what is left of a list is its next element and the rest
+pub drop-next : (l : List ℕ) (i : ℕ) → i < length l → drop i l ≡ getD l i 0 ∷ drop (i + 1) l
+drop-next l i h = rw add-one (drop-cons l i 0 h)
+
+-- after i entries
+pub record Running (ticks keys randoms : List ℕ) (w₀ w : World) (i : ℕ) : Type 0 where
+  pub lists : SameLength ticks keys randoms
+  pub inside : i ≤ length ticks
+  pub ready : Ready w
+  pub same : runFrom i (drop i ticks) (drop i keys) (drop i randoms) w ≡ runFrom 0 ticks keys randoms w₀
+
+pub started : (ticks keys randoms : List ℕ) (w : World) → SameLength ticks keys randoms → Ready w → Running ticks keys randoms w w 0
+started ticks keys randoms w s h = record { lists = s; inside = omega arith; ready = h; same = refl }
+
+module _ (ticks keys randoms : List ℕ) (w₀ w : World) (i : ℕ) (h : Running ticks keys randoms w₀ w i) where
+  pub ended : length ticks ≤ i → GivesRun (runFrom 0 ticks keys randoms w₀) i Done (w .machine) (w .trail) (w .memory) (w .picture) (w .history)
+  unfolding runFrom
+  ended past =
+      rw (← h .same, drop-of-length-le ticks {i = i} past)
+      (record { accepted = refl; rest = world-gives w w refl })
+
+  module _ (more : i < length ticks) where
+    abbrev entry : Answer
+    entry = step (getD keys i 0) (getD randoms i 0) (tickedBy (getD ticks i 0) w)
+
+    abbrev Chosen : Ran
+    Chosen = pick (eqb (entry .refusal) 0) (runFrom (i + 1) (drop (i + 1) ticks) (drop (i + 1) keys) (drop (i + 1) randoms) (entry .world))
+        (record { accepted = i; answer = entry })
+
+    opened : Chosen ≡ runFrom 0 ticks keys randoms w₀
+    unfolding runFrom
+    opened =
+        rw (drop-next ticks i more, drop-next keys i (omega (arith, h .lists .keys)), drop-next randoms i (omega (arith, h .lists .randoms))) at (h .same)
+
+    pub went-on : (m : Machine) (t : Trail) (mem pic his : List ℕ) → Gives entry Done m t mem pic his
+        → Running ticks keys randoms w₀ (world m t mem pic his) (i + 1)
+    went-on m t mem pic his g =
+        let at = gives-world entry Done m t mem pic his g in
+        record {
+          lists = h .lists;
+          inside = omega arith;
+          ready = rw at (step-ready (tickedBy (getD ticks i 0) w) (ticks-ready (getD ticks i 0) w (h .ready)) (getD keys i 0) (getD randoms i 0));
+          same = rw at (rw (eq-eqb (entry .refusal) 0 (sym (g .says))) at opened);
+        }
+
+    pub stopped : (r : Refusal) (m : Machine) (t : Trail) (mem pic his : List ℕ) → Gives entry (Refused r) m t mem pic his
+        → GivesRun (runFrom 0 ticks keys randoms w₀) i (Refused r) m t mem pic his
+    stopped r m t mem pic his g =
+        let some = ne-eqb (entry .refusal) 0 (λ z. refused-some r (g .says ∙ z)) in
+        let last = rw some at opened in
+        rw (← last) (record { accepted = refl; rest = g })
+
+-- ---- the call
+
+pub run-refused : (ticks keys randoms : List ℕ) (w : World) (r : Refusal) → number (Refused r) ≡ tests w (listsFit ticks keys randoms)
+    → GivesRun (run ticks keys randoms w) 0 (Refused r) (w .machine) (w .trail) (w .memory) (w .picture) (w .history)
+unfolding run runRefusal
+run-refused ticks keys randoms w r e =
+    let refusal = runRefusal ticks keys randoms w in
+    rw (ne-eqb refusal 0 (λ z. refused-some r (e ∙ z)))
+    (record { accepted = refl; rest = handed refusal w (Refused r) e })
+
+pub run-admitted : (ticks keys randoms : List ℕ) (w : World) → tests w (listsFit ticks keys randoms) ≡ 0
+    → run ticks keys randoms w ≡ runFrom 0 ticks keys randoms w
+unfolding run runRefusal
+run-admitted ticks keys randoms w e = rw (eq-eqb (runRefusal ticks keys randoms w) 0 e)

@@ -1,0 +1,38 @@
+-- Refused by the tests 9 or 10, or the run of a world that is ready.
+use mathlib.Core.Path.{sym, ap, _∙_}
+use borrow.Author.Needs.{needs}
+use Rattle.rules.specs.Refusal.{number}
+use Rattle.rules.specs.World.{World, world}
+use Rattle.rules.proofs.Given.{passed-lists}
+use Rattle.chip8.proofs.Entries.{run-refused, run-admitted}
+use Rattle.chip8.proofs.run.Statement.{statement}
+use Rattle.chip8.proofs.run.Tie as tie
+
+-- the world that is handed in
+abbrev given : tie.Start → World
+given s = let a = s .args in world (a .machine) (a .trail) (a .memory .now) (a .picture .now) (a .history .now)
+
+returns : tie.Need-returns
+returns c =
+    let refused = c .enum-told2 .given .1 in
+    let says = rw (c .before .before .before .before .before .before .lists-fit .ensures) at (c .before .before .admitted .ensures .0) in
+    rw refused (run-refused _ _ _ (given (c .before .before .before .before .before .before .before .before .before .before .before .before .before)) _ (rw refused at says))
+
+run-requires : tie.Need-run-requires
+run-requires c κs =
+    let done = c .before .before .before .enum-told .given .1 in
+    let admitted = c .before .before .before .before .before .admitted .ensures in
+    let says = rw (c .before .before .before .before .before .before .before .before .before .lists-fit .ensures) at (admitted .0) in
+    (admitted .1 done, passed-lists (given (c .before .before .before .before .before .before .before .before .before .before .before .before .before .before .before .before)) _ _ says done)
+
+returns-2 : tie.Need-returns-2
+returns-2 c =
+    let s = c .before .before .before .before .before .before .before .before .before .before .before .before .before .before .before .before .before .before .before .before .before .before .before in
+    let a = s .args in
+    let says = rw (c .before .before .before .before .before .before .before .before .before .before .before .before .before .before .before .before .lists-fit .ensures) at (c .before .before .before .before .before .before .before .before .before .before .before .before .admitted .ensures .0) in
+    let admitted = run-admitted (a .ticks .now) (a .keys .now) (a .randoms .now) (given s) (sym says ∙ ap number (c .before .before .before .before .before .before .before .before .before .before .enum-told .given .1)) in
+    rw admitted (c .before .before .before .before .before .before .run .ensures)
+
+pub run-spec : {M : Type 1} → statement M
+run-spec =
+    tie.close (tie.spec (search needs) (search needs) (search needs) (search needs) (search needs) (search needs) (search needs) returns run-requires (search needs) (search needs) (search needs) returns-2)
