@@ -1,5 +1,6 @@
 // A card under test: the state, the history's numbers, and how many bytes of each buffer a call is lent.
-ghost use Prim.Native.Nat.{_≤_};
+ghost use Prim.Native.Nat.{_≤_, _<_};
+ghost use Rattle.io.specs.Counts.{Counts};
 use crate::script::Line;
 use rules::Machine;
 use rules::Timers;
@@ -38,19 +39,45 @@ impl Card {
     }
 }
 
-pub fn least(a: usize, b: usize) -> usize
-    ensures { λ r. ⌜ (r ≤ a) × (r ≤ b) ⌝ }
+// How many bytes of a buffer are lent: as many as it has, at most.
+pub fn within(size: usize, buffer: &[u8]) -> usize
+    ensures { λ r. ⌜ Counts r (now (buffer .entry)) ⌝ }
 {
-    if a < b { a } else { b }
+    if size < buffer.len() {
+        return size;
+    }
+    buffer.len()
 }
 
-// Zeros to the first `size` bytes.
-pub fn clear(buffer: &mut [u8], size: usize) {
-    let end = least(size, buffer.len());
-    let mut i = 0;
-    while i < end {
-        buffer[i] = 0;
-        i += 1;
+pub fn within_words(size: usize, buffer: &[u16]) -> usize
+    ensures { λ r. ⌜ Counts r (now (buffer .entry)) ⌝ }
+{
+    if size < buffer.len() {
+        return size;
+    }
+    buffer.len()
+}
+
+// ---- bytes and words of the buffers; what lies outside stays
+
+fn set_byte(buffer: &mut [u8], at: usize, byte: u8) {
+    if at < buffer.len() {
+        buffer[at] = byte;
+    }
+}
+
+fn set_word(buffer: &mut [u16], at: usize, word: u16) {
+    if at < buffer.len() {
+        buffer[at] = word;
+    }
+}
+
+// Number k of a line, if it has one, for a poke from an index on.
+fn poke_one(buffer: &mut [u8], at: usize, line: Line, k: usize)
+    requires { ⌜ (2 ≤ k) × (k < 20) × (at < 1048576) ⌝ }
+{
+    if k <= line.count {
+        set_byte(buffer, at + k - 2, line.byte(k));
     }
 }
 
@@ -59,12 +86,24 @@ pub fn poke(buffer: &mut [u8], line: Line) {
     let at = line.size(1);
     let mut k = 2;
     while k < 20 {
-        let i = at + k - 2;
-        if k <= line.count {
-            if i < buffer.len() {
-                buffer[i] = line.byte(k);
-            }
-        }
+        poke_one(buffer, at, line, k);
+        k += 1;
+    }
+}
+
+// An entry of the lists of a run or a play.
+pub fn set_entry(bytes: &mut [u8], keys: &mut [u16], randoms: &mut [u8], line: Line) {
+    let k = line.size(1);
+    set_byte(bytes, k, line.byte(2));
+    set_word(keys, k, line.word(3));
+    set_byte(randoms, k, line.byte(4));
+}
+
+// Zeros to the entries that a script may have set.
+pub fn clear_keys(keys: &mut [u16]) {
+    let mut k = 0;
+    while k < 16 {
+        set_word(keys, k, 0);
         k += 1;
     }
 }
@@ -86,7 +125,11 @@ fn with_entry(m: Machine, line: Line) -> Machine {
 }
 
 fn wait_of(key: u8) -> Wait {
-    if key == 0xFF { Wait::Idle } else { Wait::Held(key) }
+    if key == 0xFF {
+        Wait::Idle
+    } else {
+        Wait::Held(key)
+    }
 }
 
 fn with_wait(m: Machine, key: u8) -> Machine {

@@ -28,6 +28,7 @@ impl Line {
 
     pub fn size(self, k: usize) -> usize
         requires { ⌜ k < 20 ⌝ }
+        ensures { λ r. ⌜ r < 1048576 ⌝ }
     {
         let n = self.n;
         (n[k] % 1048576) as usize
@@ -66,27 +67,45 @@ fn end_of(text: &[u8], at: usize) -> usize
     i
 }
 
-// A digit goes behind the number so far, of which five digits are kept; anything else begins the next number.
+// The numbers read so far. Twenty fit; after the last the first is written over.
+struct Numbers {
+    count: usize,
+    n: [u32; 20],
+}
+
+// A digit goes behind the present number, of which five digits are kept; anything else begins the next number.
+fn with_character(numbers: Numbers, c: u8) -> Numbers {
+    let d = digit(c);
+    let mut n = numbers.n;
+    let k = numbers.count % 20;
+    if d < 16 {
+        n[k] = n[k] % 65536 * 16 + d;
+        return Numbers { count: k, n };
+    }
+    Numbers {
+        count: (k + 1) % 20,
+        n,
+    }
+}
+
 pub fn read(text: &[u8], at: usize) -> Line
     requires { ⌜ at < length (now text) ⌝ }
     ensures { λ r. ⌜ (at < r .next) × (at ≤ r .end) × (r .end ≤ length (now (text .entry))) ⌝ }
 {
     let end = end_of(text, at);
-    let mut n = [0u32; 20];
-    let mut k = 0;
+    let mut numbers = Numbers {
+        count: 0,
+        n: [0; 20],
+    };
     let mut i = at + 1;
     while i < end {
-        let d = digit(text[i]);
-        if d < 16 {
-            n[k] = n[k] % 65536 * 16 + d;
-        } else if k < 19 {
-            k += 1;
-        }
+        numbers = with_character(numbers, text[i]);
         i += 1;
     }
+    let n = numbers.n;
     Line {
         letter: text[at],
-        count: k,
+        count: numbers.count,
         n,
         end,
         next: end + 1,

@@ -1,15 +1,14 @@
 -- While a trace is put: what stands so far, and what the steps from here on will add to it, is the whole.
-use mathlib.Core.Path.{_≡_, refl, sym, ap, _∙_}
+use mathlib.Core.Path.{_≡_, sym, _∙_}
 use mathlib.Core.List.{List, _++_, append-assoc}
 use Prim.Native.Nat.{ℕ, suc, _+_, _-_, _*_, _≤_}
 use native.Mathlib.Omega.{arith}
-use borrow.Author.Tests.{eq-eqb, ne-eqb}
+use borrow.Author.Tests.{ne-eqb}
 use lib.ListN.{length, take}
 use lib.Seq.{length-take-le}
 use Rattle.rules.specs.declared.Machine.{Machine}
 use Rattle.rules.specs.declared.Trail.{Trail}
 use Rattle.rules.specs.declared.Outcome.{Outcome}
-use Rattle.rules.specs.Refusal.{number}
 use Rattle.rules.specs.World.{World, Answer, world}
 use Rattle.rules.specs.Call.{step}
 use Rattle.rules.specs.Promise.{Gives}

@@ -1,7 +1,4 @@
 -- Two bytes make a number below 65,536.
-use mathlib.Core.Path.{_≡_, ap₂}
-use Prim.Native.Nat.{ℕ, _+_, _*_}
-use native.Mathlib.Omega.{arith}
 use borrow.Author.Needs.{needs}
 use Rattle.trace.proofs.steps.word_at.Statement.{statement}
 use Rattle.trace.proofs.steps.word_at.Tie as tie
