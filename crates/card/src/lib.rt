@@ -71,7 +71,10 @@ fn load_in(
     history: &mut [u8],
 ) -> u32
     requires { ⌜ length (now image) ≡ imageSize ⌝ }
-    ensures { λ r. ⌜ Leaves (shown true (now (image .entry)) (rules_load.load (now (program .entry)) (now (memory .entry)) (now (picture .entry)) (now (history .entry)))) r (now (image .exit)) (now (memory .exit)) (now (picture .exit)) (now (history .exit)) ⌝ }
+    ensures { λ r. ⌜ Leaves
+        (shown true (now (image .entry))
+        (rules_load.load (now (program .entry)) (now (memory .entry)) (now (picture .entry)) (now (history .entry)))) r
+        (now (image .exit)) (now (memory .exit)) (now (picture .exit)) (now (history .exit)) ⌝ }
 {
     let answer = chip8::load(program, memory, picture, history);
     let m = answer.machine;
@@ -90,7 +93,11 @@ fn step_in(
     random: u8,
 ) -> u32
     requires { ⌜ length (now image) ≡ imageSize ⌝ }
-    ensures { λ r. ⌜ Leaves (whole (now (image .entry)) (rules_call.step keys random (worldOf (now (image .entry)) (now (memory .entry)) (now (picture .entry)) (now (history .entry))))) r (now (image .exit)) (now (memory .exit)) (now (picture .exit)) (now (history .exit)) ⌝ }
+    ensures { λ r. ⌜ Leaves
+        (whole (now (image .entry))
+        (rules_call.step keys random
+        (worldOf (now (image .entry)) (now (memory .entry)) (now (picture .entry)) (now (history .entry))))) r
+        (now (image .exit)) (now (memory .exit)) (now (picture .exit)) (now (history .exit)) ⌝ }
 {
     let before = image::read(image);
     let m = before.machine;
@@ -109,7 +116,10 @@ fn step_in(
 
 fn tick_in(image: &mut [u8], history: &mut [u8]) -> u32
     requires { ⌜ length (now image) ≡ imageSize ⌝ }
-    ensures { λ r. ⌜ ((memory picture : List ℕ) → Leaves (whole (now (image .entry)) (rules_call.tick (worldOf (now (image .entry)) memory picture (now (history .entry))))) r (now (image .exit)) memory picture (now (history .exit))) ⌝ }
+    ensures { λ r. ⌜
+        ((memory picture : List ℕ) → Leaves
+        (whole (now (image .entry)) (rules_call.tick (worldOf (now (image .entry)) memory picture (now (history .entry))))) r
+        (now (image .exit)) memory picture (now (history .exit))) ⌝ }
 {
     let before = image::read(image);
     let m = before.machine;
@@ -128,7 +138,10 @@ fn tick_in(image: &mut [u8], history: &mut [u8]) -> u32
 
 fn back_in(image: &mut [u8], memory: &mut [u8], picture: &mut [u8], history: &[u8]) -> u32
     requires { ⌜ length (now image) ≡ imageSize ⌝ }
-    ensures { λ r. ⌜ Leaves (whole (now (image .entry)) (rules_call.back (worldOf (now (image .entry)) (now (memory .entry)) (now (picture .entry)) (now (history .entry))))) r (now (image .exit)) (now (memory .exit)) (now (picture .exit)) (now (history .entry)) ⌝ }
+    ensures { λ r. ⌜ Leaves
+        (whole (now (image .entry))
+        (rules_call.back (worldOf (now (image .entry)) (now (memory .entry)) (now (picture .entry)) (now (history .entry))))) r
+        (now (image .exit)) (now (memory .exit)) (now (picture .exit)) (now (history .entry)) ⌝ }
 {
     let before = image::read(image);
     let m = before.machine;
@@ -157,8 +170,17 @@ fn run_in(
     answer: &mut [u64],
 ) -> u32
     requires { ⌜ length (now image) ≡ imageSize ⌝ }
-    ensures { λ r. ⌜ Leaves (partly (now (image .entry)) ((rules_run.run (now (ticks .entry)) (now (keys .entry)) (now (randoms .entry)) (worldOf (now (image .entry)) (now (memory .entry)) (now (picture .entry)) (now (history .entry)))) .answer)) r (now (image .exit)) (now (memory .exit)) (now (picture .exit)) (now (history .exit)) ⌝ }
-    ensures { λ r. ⌜ now (answer .exit) ≡ answered ((rules_run.run (now (ticks .entry)) (now (keys .entry)) (now (randoms .entry)) (worldOf (now (image .entry)) (now (memory .entry)) (now (picture .entry)) (now (history .entry)))) .accepted) (now (answer .entry)) ⌝ }
+    ensures { λ r. ⌜ Leaves
+        (partly (now (image .entry))
+        (
+        (rules_run.run (now (ticks .entry)) (now (keys .entry)) (now (randoms .entry))
+        (worldOf (now (image .entry)) (now (memory .entry)) (now (picture .entry)) (now (history .entry)))) .answer)) r
+        (now (image .exit)) (now (memory .exit)) (now (picture .exit)) (now (history .exit)) ⌝ }
+    ensures { λ r. ⌜ now (answer .exit) ≡ answered
+        (
+        (rules_run.run (now (ticks .entry)) (now (keys .entry)) (now (randoms .entry))
+        (worldOf (now (image .entry)) (now (memory .entry)) (now (picture .entry)) (now (history .entry)))) .accepted)
+        (now (answer .entry)) ⌝ }
 {
     let before = image::read(image);
     let m = before.machine;
@@ -186,7 +208,11 @@ fn play_in(
     randoms: &[u8],
 ) -> u32
     requires { ⌜ length (now image) ≡ imageSize ⌝ }
-    ensures { λ r. ⌜ Leaves (partly (now (image .entry)) (rules_run.play (now (moves .entry)) (now (keys .entry)) (now (randoms .entry)) (worldOf (now (image .entry)) (now (memory .entry)) (now (picture .entry)) (now (history .entry))))) r (now (image .exit)) (now (memory .exit)) (now (picture .exit)) (now (history .exit)) ⌝ }
+    ensures { λ r. ⌜ Leaves
+        (partly (now (image .entry))
+        (rules_run.play (now (moves .entry)) (now (keys .entry)) (now (randoms .entry))
+        (worldOf (now (image .entry)) (now (memory .entry)) (now (picture .entry)) (now (history .entry))))) r
+        (now (image .exit)) (now (memory .exit)) (now (picture .exit)) (now (history .exit)) ⌝ }
 {
     let before = image::read(image);
     let m = before.machine;
@@ -213,7 +239,9 @@ pub extern "C" fn card_load(
     picture: &mut [u8],
     history: &mut [u8],
 ) -> u32
-    ensures { λ r. ⌜ Leaves (spec.cardLoad (now (program .entry)) (now (image .entry)) (now (memory .entry)) (now (picture .entry)) (now (history .entry))) r (now (image .exit)) (now (memory .exit)) (now (picture .exit)) (now (history .exit)) ⌝ }
+    ensures { λ r. ⌜ Leaves
+        (spec.cardLoad (now (program .entry)) (now (image .entry)) (now (memory .entry)) (now (picture .entry))
+        (now (history .entry))) r (now (image .exit)) (now (memory .exit)) (now (picture .exit)) (now (history .exit)) ⌝ }
 {
     if image.len() != image::IMAGE {
         return 9;
@@ -231,7 +259,10 @@ pub extern "C" fn card_step(
     random: u8,
     answer: &mut [u64],
 ) -> u32
-    ensures { λ r. ⌜ Leaves (spec.cardStep keys random (answers (now (answer .entry))) (now (image .entry)) (now (memory .entry)) (now (picture .entry)) (now (history .entry))) r (now (image .exit)) (now (memory .exit)) (now (picture .exit)) (now (history .exit)) ⌝ }
+    ensures { λ r. ⌜ Leaves
+        (spec.cardStep keys random (answers (now (answer .entry))) (now (image .entry)) (now (memory .entry))
+        (now (picture .entry)) (now (history .entry))) r (now (image .exit)) (now (memory .exit)) (now (picture .exit))
+        (now (history .exit)) ⌝ }
     ensures { λ r. ⌜ now (answer .exit) ≡ answered (pick (eqb r 0) 1 0) (now (answer .entry)) ⌝ }
 {
     if image.len() != image::IMAGE {
@@ -252,7 +283,9 @@ pub extern "C" fn card_step(
 
 #[no_mangle]
 pub extern "C" fn card_tick(image: &mut [u8], history: &mut [u8]) -> u32
-    ensures { λ r. ⌜ ((memory picture : List ℕ) → Leaves (spec.cardTick (now (image .entry)) memory picture (now (history .entry))) r (now (image .exit)) memory picture (now (history .exit))) ⌝ }
+    ensures { λ r. ⌜
+        ((memory picture : List ℕ) → Leaves (spec.cardTick (now (image .entry)) memory picture (now (history .entry))) r
+        (now (image .exit)) memory picture (now (history .exit))) ⌝ }
 {
     if image.len() != image::IMAGE {
         return 9;
@@ -267,7 +300,8 @@ pub extern "C" fn card_back(
     picture: &mut [u8],
     history: &[u8],
 ) -> u32
-    ensures { λ r. ⌜ Leaves (spec.cardBack (now (image .entry)) (now (memory .entry)) (now (picture .entry)) (now (history .entry))) r (now (image .exit)) (now (memory .exit)) (now (picture .exit)) (now (history .entry)) ⌝ }
+    ensures { λ r. ⌜ Leaves (spec.cardBack (now (image .entry)) (now (memory .entry)) (now (picture .entry)) (now (history .entry)))
+        r (now (image .exit)) (now (memory .exit)) (now (picture .exit)) (now (history .entry)) ⌝ }
 {
     if image.len() != image::IMAGE {
         return 9;
@@ -286,8 +320,13 @@ pub extern "C" fn card_run(
     randoms: &[u8],
     answer: &mut [u64],
 ) -> u32
-    ensures { λ r. ⌜ Leaves (spec.cardRun (now (ticks .entry)) (now (keys .entry)) (now (randoms .entry)) (answers (now (answer .entry))) (now (image .entry)) (now (memory .entry)) (now (picture .entry)) (now (history .entry))) r (now (image .exit)) (now (memory .exit)) (now (picture .exit)) (now (history .exit)) ⌝ }
-    ensures { λ r. ⌜ now (answer .exit) ≡ answered (spec.runAccepted (now (ticks .entry)) (now (keys .entry)) (now (randoms .entry)) (now (image .entry)) (now (memory .entry)) (now (picture .entry)) (now (history .entry))) (now (answer .entry)) ⌝ }
+    ensures { λ r. ⌜ Leaves
+        (spec.cardRun (now (ticks .entry)) (now (keys .entry)) (now (randoms .entry)) (answers (now (answer .entry)))
+        (now (image .entry)) (now (memory .entry)) (now (picture .entry)) (now (history .entry))) r (now (image .exit))
+        (now (memory .exit)) (now (picture .exit)) (now (history .exit)) ⌝ }
+    ensures { λ r. ⌜ now (answer .exit) ≡ answered
+        (spec.runAccepted (now (ticks .entry)) (now (keys .entry)) (now (randoms .entry)) (now (image .entry))
+        (now (memory .entry)) (now (picture .entry)) (now (history .entry))) (now (answer .entry)) ⌝ }
 {
     if image.len() != image::IMAGE {
         put_answer(answer, 0);
@@ -318,7 +357,10 @@ pub extern "C" fn card_play(
     keys: &[u16],
     randoms: &[u8],
 ) -> u32
-    ensures { λ r. ⌜ Leaves (spec.cardPlay (now (moves .entry)) (now (keys .entry)) (now (randoms .entry)) (now (image .entry)) (now (memory .entry)) (now (picture .entry)) (now (history .entry))) r (now (image .exit)) (now (memory .exit)) (now (picture .exit)) (now (history .exit)) ⌝ }
+    ensures { λ r. ⌜ Leaves
+        (spec.cardPlay (now (moves .entry)) (now (keys .entry)) (now (randoms .entry)) (now (image .entry)) (now (memory .entry))
+        (now (picture .entry)) (now (history .entry))) r (now (image .exit)) (now (memory .exit)) (now (picture .exit))
+        (now (history .exit)) ⌝ }
 {
     if image.len() != image::IMAGE {
         return 9;

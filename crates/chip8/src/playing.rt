@@ -34,7 +34,9 @@ fn make(
     keys: u16,
     random: u8,
 ) -> Answer
-    ensures { λ r. ⌜ Gives (made (moveOf step keys random) (world machine trail (now (memory .entry)) (now (picture .entry)) (now (history .entry)))) (r .outcome) (r .machine) (r .trail) (now (memory .exit)) (now (picture .exit)) (now (history .exit)) ⌝ }
+    ensures { λ r. ⌜ Gives
+        (made (moveOf step keys random) (world machine trail (now (memory .entry)) (now (picture .entry)) (now (history .entry))))
+        (r .outcome) (r .machine) (r .trail) (now (memory .exit)) (now (picture .exit)) (now (history .exit)) ⌝ }
 {
     match step {
         0 => crate::step(machine, trail, memory, picture, history, keys, random),
@@ -54,7 +56,10 @@ pub fn play(
     randoms: &[u8],
 ) -> Answer
     requires { ⌜ listsFit (now moves) (now keys) (now randoms) ≡ true ⌝ }
-    ensures { λ r. ⌜ Gives (playFrom (movesOf (now (moves .entry)) (now (keys .entry)) (now (randoms .entry))) (unrefused (world machine trail (now (memory .entry)) (now (picture .entry)) (now (history .entry))))) (r .outcome) (r .machine) (r .trail) (now (memory .exit)) (now (picture .exit)) (now (history .exit)) ⌝ }
+    ensures { λ r. ⌜ Gives
+        (playFrom (movesOf (now (moves .entry)) (now (keys .entry)) (now (randoms .entry)))
+        (unrefused (world machine trail (now (memory .entry)) (now (picture .entry)) (now (history .entry))))) (r .outcome)
+        (r .machine) (r .trail) (now (memory .exit)) (now (picture .exit)) (now (history .exit)) ⌝ }
 {
     let mut last = Answer {
         outcome: Outcome::Done,
