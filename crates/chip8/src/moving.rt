@@ -17,7 +17,7 @@ use rules::Refusal;
 use rules::Trail;
 
 // Judges the step, keeps its record, and acts.
-pub fn step(
+pub(crate) fn step(
     machine: Machine,
     trail: Trail,
     memory: &mut [u8],
@@ -66,7 +66,7 @@ pub fn step(
 }
 
 // Keeps the record of a tick, and lowers the timers.
-pub fn tick(machine: Machine, trail: Trail, history: &mut [u8]) -> Answer
+pub(crate) fn tick(machine: Machine, trail: Trail, history: &mut [u8]) -> Answer
     requires { ⌜ Tickable machine trail (now history) ⌝ }
     ensures { λ r. ⌜
         ((memory picture : List ℕ) → Gives

@@ -35,7 +35,7 @@ fn put_back(change: Change, place: &[u8], memory: &mut [u8], picture: &mut [u8])
     }
 }
 
-pub fn back(
+pub(crate) fn back(
     machine: Machine,
     trail: Trail,
     memory: &mut [u8],
