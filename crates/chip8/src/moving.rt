@@ -1,10 +1,9 @@
 // A step and a tick of a world that passed the tests 9 and 10.
-ghost use mathlib.Core.Path.{_≡_};
 ghost use mathlib.Core.List.{List};
 ghost use Prim.Native.Nat.{ℕ};
 ghost use Rattle.rules.specs.World.{world};
 ghost use Rattle.rules.specs.Call as rules_call;
-ghost use Rattle.rules.specs.Run.{tickedBy, unrefused};
+ghost use Rattle.rules.specs.Run.{unrefused};
 ghost use Rattle.rules.specs.Promise.{Gives};
 ghost use Rattle.rules.proofs.Ready.{Ready};
 ghost use Rattle.chip8.specs.Inner.{Tickable};
