@@ -12,7 +12,14 @@ use rules::Machine;
 use rules::Trail;
 
 // Writes the record of a change that is about to be made into the place at next.
-pub(crate) fn keep(change: Change, m: Machine, t: Trail, memory: &[u8], picture: &[u8], history: &mut [u8])
+pub(crate) fn keep(
+    change: Change,
+    m: Machine,
+    t: Trail,
+    memory: &[u8],
+    picture: &[u8],
+    history: &mut [u8],
+)
     requires { ⌜ Keepable change m t (now memory) (now picture) (now history) ⌝ }
     ensures { λ _. ⌜ now (history .exit) ≡ written change
         (world m t (now (memory .entry)) (now (picture .entry)) (now (history .entry))) ⌝ }
