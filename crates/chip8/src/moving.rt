@@ -1,10 +1,9 @@
 // A step and a tick of a world that passed the tests 9 and 10.
-ghost use mathlib.Core.Path.{_≡_};
 ghost use mathlib.Core.List.{List};
 ghost use Prim.Native.Nat.{ℕ};
 ghost use Rattle.rules.specs.World.{world};
 ghost use Rattle.rules.specs.Call as rules_call;
-ghost use Rattle.rules.specs.Run.{tickedBy, unrefused};
+ghost use Rattle.rules.specs.Run.{unrefused};
 ghost use Rattle.rules.specs.Promise.{Gives};
 ghost use Rattle.rules.proofs.Ready.{Ready};
 ghost use Rattle.chip8.specs.Inner.{Tickable};
@@ -17,7 +16,7 @@ use rules::Refusal;
 use rules::Trail;
 
 // Judges the step, keeps its record, and acts.
-pub fn step(
+pub(crate) fn step(
     machine: Machine,
     trail: Trail,
     memory: &mut [u8],
@@ -66,7 +65,7 @@ pub fn step(
 }
 
 // Keeps the record of a tick, and lowers the timers.
-pub fn tick(machine: Machine, trail: Trail, history: &mut [u8]) -> Answer
+pub(crate) fn tick(machine: Machine, trail: Trail, history: &mut [u8]) -> Answer
     requires { ⌜ Tickable machine trail (now history) ⌝ }
     ensures { λ r. ⌜
         ((memory picture : List ℕ) → Gives

@@ -10,7 +10,7 @@ use rules::Outcome;
 use rules::Trail;
 
 // Whether each byte is a move.
-pub fn all_moves(moves: &[u8]) -> bool
+pub(crate) fn all_moves(moves: &[u8]) -> bool
     ensures { λ r. ⌜ r ≡ allMoves (now (moves .entry)) ⌝ }
 {
     let mut i = 0;
@@ -45,7 +45,7 @@ fn make(
     }
 }
 
-pub fn play(
+pub(crate) fn play(
     machine: Machine,
     trail: Trail,
     memory: &mut [u8],

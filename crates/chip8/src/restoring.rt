@@ -1,6 +1,5 @@
 // A step back in a world that passed the tests 9 and 10.
 ghost use mathlib.Core.Path.{_≡_};
-ghost use Prim.Native.Nat.{_≤_};
 ghost use lib.ListN.{length};
 ghost use Rattle.rules.specs.World.{world, places};
 ghost use Rattle.rules.specs.Record.{placeSize, memoryAt, pictureAt};
@@ -35,7 +34,7 @@ fn put_back(change: Change, place: &[u8], memory: &mut [u8], picture: &mut [u8])
     }
 }
 
-pub fn back(
+pub(crate) fn back(
     machine: Machine,
     trail: Trail,
     memory: &mut [u8],

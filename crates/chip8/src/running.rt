@@ -18,7 +18,7 @@ use rules::Outcome;
 use rules::Trail;
 
 // Three lengths that are equal, at most 4,096.
-pub fn lists_fit(a: usize, b: usize, c: usize) -> bool
+pub(crate) fn lists_fit(a: usize, b: usize, c: usize) -> bool
     ensures { λ r. ⌜ r ≡ (eqb a b && eqb b c && leb a 4096) ⌝ }
 {
     (a == b) & (b == c) & (a <= 4096)
@@ -72,7 +72,7 @@ fn entry(
     moving::step(m, t, memory, picture, history, keys, random)
 }
 
-pub fn run(
+pub(crate) fn run(
     machine: Machine,
     trail: Trail,
     memory: &mut [u8],

@@ -53,7 +53,7 @@ fn held_sound(wait: Wait) -> bool
 }
 
 // Whether the stack is clear from `at` on.
-fn clear_from(stack: [u16; 12], at: usize) -> bool
+fn clear_from(stack: [u16; Machine::STACK], at: usize) -> bool
     requires { ⌜ at ≤ 12 ⌝ }
     ensures { λ r. ⌜ r ≡ state.zeros (drop at stack) ⌝ }
 {

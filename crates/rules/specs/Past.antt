@@ -10,7 +10,7 @@ use Rattle.rules.specs.Number.{pick}
 use Rattle.rules.specs.Refusal.{numberOf}
 use Rattle.rules.specs.State.{sound}
 use Rattle.rules.specs.Step.{Board}
-use Rattle.rules.specs.World.{World, Answer, boardOf, places, buffersFit}
+use Rattle.rules.specs.World.{World, boardOf, places, buffersFit}
 use Rattle.rules.specs.Load.{load}
 use Rattle.rules.specs.Call.{stepBoard, tickBoard, back}
 use Rattle.rules.specs.Run.{Move, aStep, aTick, aBack, made, playFrom, unrefused}
