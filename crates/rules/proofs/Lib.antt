@@ -13,3 +13,4 @@ pub mod StepsBack
 pub mod Load
 pub mod OnlyOne
 pub mod Given
+pub mod RunsPlay
