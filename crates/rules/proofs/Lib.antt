@@ -14,3 +14,4 @@ pub mod StepsBack
 pub mod Load
 pub mod OnlyOne
 pub mod Given
+pub mod RunsPlay
