@@ -8,6 +8,7 @@ pub mod Undo
 pub mod Drawn
 pub mod Follow
 pub mod Sound
+pub mod Zeros
 pub mod Ready
 pub mod StepsBack
 pub mod Load

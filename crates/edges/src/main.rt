@@ -1,0 +1,168 @@
+// Both sides of each edge: obeys the script on standard input, a line at a time, through the library's calls, and writes what came
+// of each. The script is the crate's file stdin, and what must come is in its file stdout.
+//
+// The letters of the script. A line that begins with # is the heading of a case, and sets everything back.
+//
+//   v X BB   i WWWW   p WWWW   d BB   s K WWWW   w KK   t BB BB   n N K   l M P H
+//            VX, I, PC, depth, a stack entry, the held key or FF, the timers, next and kept, how many bytes are lent
+//   M P H b  AAAA BB ..    bytes into memory, the picture, the history and the list of bytes, which is a load's program, a run's
+//                          ticks and a play's moves
+//   e K BB WWWW BB         entry K of the list of bytes, of the keys and of the random bytes
+//   O WWWW [KKKK RR]       the instruction at PC, and a step;   S KKKK RR   a step
+//   T   B   L NNNN         a tick, a step back, a load of so many bytes of the program
+//   R A B C   Y A B C      a run, a play, with lists of these lengths
+//   F NNNN KKKK   U NNNN   so many actions forward, steps back
+//   m g h AAAA NN          shows bytes of memory, the picture, the history
+mod calls;
+mod card;
+mod report;
+mod script;
+
+ghost use Prim.Native.Nat.{_≤_, _<_};
+ghost use lib.ListN.{length};
+use card::Card;
+use script::Line;
+
+// The heading of a case, which sets everything back.
+fn reset(
+    heading: &[u8],
+    memory: &mut [u8],
+    picture: &mut [u8],
+    history: &mut [u8],
+    bytes: &mut [u8],
+    keys: &mut [u16],
+    randoms: &mut [u8],
+) -> Card {
+    report::heading(heading);
+    memory::clear(memory, 0);
+    memory::clear(picture, 0);
+    memory::clear(history, 0);
+    memory::clear(bytes, 0);
+    memory::clear(randoms, 0);
+    card::clear_keys(keys);
+    Card::fresh()
+}
+
+// Bytes into a buffer, or an entry of the lists.
+fn store(
+    line: Line,
+    memory: &mut [u8],
+    picture: &mut [u8],
+    history: &mut [u8],
+    bytes: &mut [u8],
+    keys: &mut [u16],
+    randoms: &mut [u8],
+) {
+    let letter = line.letter;
+    match letter {
+        b'M' => card::poke(memory, line),
+        b'P' => card::poke(picture, line),
+        b'H' => card::poke(history, line),
+        b'b' => card::poke(bytes, line),
+        _ => card::set_entry(bytes, keys, randoms, line),
+    }
+}
+
+fn show(line: Line, memory: &[u8], picture: &[u8], history: &[u8]) {
+    let letter = line.letter;
+    match letter {
+        b'm' => report::show(b"memory", memory, line),
+        b'g' => report::show(b"picture", picture, line),
+        _ => report::show(b"history", history, line),
+    }
+}
+
+// A call, and its line.
+fn call(
+    line: Line,
+    card: Card,
+    memory: &mut [u8],
+    picture: &mut [u8],
+    history: &mut [u8],
+    bytes: &[u8],
+    keys: &[u16],
+    randoms: &[u8],
+) -> Card {
+    let came = calls::made(card, line, memory, picture, history, bytes, keys, randoms);
+    report::call(line.letter, came, memory, picture, history);
+    came.card
+}
+
+fn obey(
+    text: &[u8],
+    line: Line,
+    card: Card,
+    memory: &mut [u8],
+    picture: &mut [u8],
+    history: &mut [u8],
+    bytes: &mut [u8],
+    keys: &mut [u16],
+    randoms: &mut [u8],
+) -> Card {
+    let letter = line.letter;
+    match letter {
+        b'#' => reset(text, memory, picture, history, bytes, keys, randoms),
+        b'M' | b'P' | b'H' | b'b' | b'e' => {
+            store(line, memory, picture, history, bytes, keys, randoms);
+            card
+        }
+        b'm' | b'g' | b'h' => {
+            show(line, memory, picture, history);
+            card
+        }
+        b'S' | b'O' | b'T' | b'B' | b'L' | b'R' | b'Y' | b'F' | b'U' => {
+            call(line, card, memory, picture, history, bytes, keys, randoms)
+        }
+        _ => card::changed(card, line),
+    }
+}
+
+// Every line of the script, on buffers of one byte more than the largest that fits.
+fn obey_all(
+    text: &[u8],
+    memory: &mut [u8],
+    picture: &mut [u8],
+    history: &mut [u8],
+    bytes: &mut [u8],
+    keys: &mut [u16],
+    randoms: &mut [u8],
+) {
+    let mut card = Card::fresh();
+    let mut at = 0;
+    while at < text.len() {
+        let line = script::read(text, at);
+        let end = line.end;
+        card = obey(
+            &text[at..end],
+            line,
+            card,
+            memory,
+            picture,
+            history,
+            bytes,
+            keys,
+            randoms,
+        );
+        at = line.next;
+    }
+}
+
+fn main() {
+    let mut script = io::large_buffer();
+    let size = io::read_full(0, &mut script);
+    let mut memory = [0u8; 4097];
+    let mut picture = [0u8; 257];
+    let mut history = [0u8; 65537];
+    let mut bytes = [0u8; 4097];
+    let mut keys = [0u16; 4097];
+    let mut randoms = [0u8; 4097];
+    obey_all(
+        &script[..size],
+        &mut memory,
+        &mut picture,
+        &mut history,
+        &mut bytes,
+        &mut keys,
+        &mut randoms,
+    );
+}

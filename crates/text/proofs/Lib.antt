@@ -1,0 +1,2 @@
+-- The laws that whoever puts one text behind another cites.
+pub mod Joined

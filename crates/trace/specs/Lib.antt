@@ -1,0 +1,2 @@
+-- The trace of document 01.
+pub mod Trace
