@@ -1,0 +1,399 @@
+/*
+ * A small dock: plays on the card as a host in C would, prints what it sees and
+ * ends with 1 on any surprise.
+ *
+ * All buffers stand in one struct with guard bytes between them. The guards
+ * are looked at after every call.
+ */
+#include <stdio.h>
+#include <string.h>
+
+#include "../../include/card.h"
+
+#define GUARD 48
+#define GUARD_BYTE 0xA5
+#define PLACES 40
+
+struct desk {
+    uint8_t guard_0[GUARD];
+    uint8_t image[CARD_IMAGE];
+    uint8_t guard_1[GUARD];
+    uint8_t memory[CARD_MEMORY];
+    uint8_t guard_2[GUARD];
+    uint8_t picture[CARD_PICTURE];
+    uint8_t guard_3[GUARD];
+    uint8_t history[PLACES * CARD_PLACE + 7];
+    uint8_t guard_4[GUARD];
+    uint64_t answer[CARD_ANSWER];
+    uint8_t guard_5[GUARD];
+};
+
+static struct desk desk;
+static int surprises;
+
+static void surprise(const char *what) {
+    printf("SURPRISE: %s\n", what);
+    surprises++;
+}
+
+static void expect(int holds, const char *what) {
+    if (!holds) {
+        surprise(what);
+    }
+}
+
+/* ---- Guards ------------------------------------------------------------- */
+
+static void set_guards(void) {
+    memset(desk.guard_0, GUARD_BYTE, GUARD);
+    memset(desk.guard_1, GUARD_BYTE, GUARD);
+    memset(desk.guard_2, GUARD_BYTE, GUARD);
+    memset(desk.guard_3, GUARD_BYTE, GUARD);
+    memset(desk.guard_4, GUARD_BYTE, GUARD);
+    memset(desk.guard_5, GUARD_BYTE, GUARD);
+}
+
+static void look_at_guard(const uint8_t *guard) {
+    for (int at = 0; at < GUARD; at++) {
+        if (guard[at] != GUARD_BYTE) {
+            surprise("a byte was written outside the buffers");
+            return;
+        }
+    }
+}
+
+static uint32_t after_call(uint32_t refusal) {
+    look_at_guard(desk.guard_0);
+    look_at_guard(desk.guard_1);
+    look_at_guard(desk.guard_2);
+    look_at_guard(desk.guard_3);
+    look_at_guard(desk.guard_4);
+    look_at_guard(desk.guard_5);
+    return refusal;
+}
+
+/* ---- The calls with all the desk's buffers ------------------------------ */
+
+static uint32_t load(const uint8_t *program, size_t length) {
+    return after_call(card_load(program, length,
+                                desk.image, sizeof desk.image,
+                                desk.memory, sizeof desk.memory,
+                                desk.picture, sizeof desk.picture,
+                                desk.history, sizeof desk.history));
+}
+
+static uint32_t step(uint16_t keys, uint8_t random) {
+    return after_call(card_step(desk.image, sizeof desk.image,
+                                desk.memory, sizeof desk.memory,
+                                desk.picture, sizeof desk.picture,
+                                desk.history, sizeof desk.history,
+                                keys, random, desk.answer, CARD_ANSWER));
+}
+
+static uint32_t tick(void) {
+    return after_call(card_tick(desk.image, sizeof desk.image,
+                                desk.history, sizeof desk.history));
+}
+
+static uint32_t back(void) {
+    return after_call(card_back(desk.image, sizeof desk.image,
+                                desk.memory, sizeof desk.memory,
+                                desk.picture, sizeof desk.picture,
+                                desk.history, sizeof desk.history));
+}
+
+static uint32_t run(const uint8_t *ticks, const uint16_t *keys,
+                    const uint8_t *randoms, size_t entries) {
+    return after_call(card_run(desk.image, sizeof desk.image,
+                               desk.memory, sizeof desk.memory,
+                               desk.picture, sizeof desk.picture,
+                               desk.history, sizeof desk.history,
+                               ticks, entries, keys, entries,
+                               randoms, entries, desk.answer, CARD_ANSWER));
+}
+
+static uint32_t play(const uint8_t *moves, const uint16_t *keys,
+                     const uint8_t *randoms, size_t entries) {
+    return after_call(card_play(desk.image, sizeof desk.image,
+                                desk.memory, sizeof desk.memory,
+                                desk.picture, sizeof desk.picture,
+                                desk.history, sizeof desk.history,
+                                moves, entries, keys, entries,
+                                randoms, entries));
+}
+
+/* ---- Looking at the machine --------------------------------------------- */
+
+static unsigned number(int at) {
+    return (unsigned)desk.image[at] << 8 | desk.image[at + 1];
+}
+
+static void set_number(int at, unsigned value) {
+    desk.image[at] = (uint8_t)(value >> 8);
+    desk.image[at + 1] = (uint8_t)value;
+}
+
+static void put_instruction(unsigned at, unsigned word) {
+    desk.memory[at] = (uint8_t)(word >> 8);
+    desk.memory[at + 1] = (uint8_t)word;
+}
+
+static void show_state(void) {
+    printf("pc %04X i %04X v0 %02X v1 %02X v2 %02X v3 %02X vf %02X depth %u "
+           "delay %02X tone %02X held %02X kept %u\n",
+           number(CARD_AT_PC), number(CARD_AT_I), desk.image[0], desk.image[1],
+           desk.image[2], desk.image[3], desk.image[15],
+           desk.image[CARD_AT_DEPTH], desk.image[CARD_AT_DELAY],
+           desk.image[CARD_AT_TONE], desk.image[CARD_AT_HELD],
+           number(CARD_AT_KEPT));
+}
+
+static void show_rows(int first, int last) {
+    for (int row = first; row <= last; row++) {
+        printf("row %2d ", row);
+        for (int column = 0; column < CARD_COLUMNS; column++) {
+            uint8_t byte = desk.picture[CARD_BYTES_A_ROW * row + column / 8];
+            putchar(byte >> (7 - column % 8) & 1 ? '#' : '.');
+        }
+        putchar('\n');
+    }
+}
+
+static void accepted_step(uint16_t keys) {
+    unsigned pc = number(CARD_AT_PC);
+    unsigned word = (unsigned)desk.memory[pc] << 8 | desk.memory[pc + 1];
+    expect(step(keys, 0) == CARD_DONE, "a step was refused");
+    expect(desk.answer[CARD_ACCEPTED] == 1, "an accepted step counts 1");
+    printf("step %04X: ", word);
+    show_state();
+}
+
+/* ---- A program, there and all the way back ------------------------------ */
+
+static const uint8_t PROGRAM[] = {
+    0x6A, 0x3C, /* 0200 VA = 3C, a column near the right edge */
+    0x6B, 0x1E, /* 0202 VB = 1E, a row near the bottom */
+    0x60, 0xFE, /* 0204 V0 = FE */
+    0xF0, 0x29, /* 0206 I = the digit E */
+    0xDA, 0xB5, /* 0208 draw it; three of its rows are dropped */
+    0xDA, 0xB5, /* 020A draw it again; it vanishes, and VF is 1 */
+    0xA3, 0x00, /* 020C I = 0300 */
+    0xF0, 0x33, /* 020E 2, 5 and 4 at 0300 */
+    0xF2, 0x65, /* 0210 V0, V1, V2 = 2, 5, 4 */
+    0x22, 0x18, /* 0212 call 0218 */
+    0xF3, 0x0A, /* 0214 wait for a key in V3 */
+    0x12, 0x16, /* 0216 stay here */
+    0xF1, 0x15, /* 0218 delay = V1 */
+    0xF2, 0x18, /* 021A tone = V2 */
+    0x00, 0xEE, /* 021C return */
+};
+
+static void there_and_back(void) {
+    static struct desk start;
+
+    memset(&desk, 0x55, sizeof desk);
+    set_guards();
+    expect(load(PROGRAM, sizeof PROGRAM) == CARD_DONE, "the load was refused");
+    memcpy(&start, &desk, sizeof desk);
+    printf("loaded %zu bytes\n", sizeof PROGRAM);
+    show_state();
+
+    for (int count = 0; count < 5; count++) {
+        accepted_step(0);
+    }
+    show_rows(29, 31);
+    for (int count = 0; count < 7; count++) {
+        accepted_step(0);
+    }
+    show_rows(29, 31);
+    for (int count = 0; count < 5; count++) {
+        expect(tick() == CARD_DONE, "a tick was refused");
+    }
+    printf("5 ticks:   ");
+    show_state();
+    accepted_step(0);                /* the return */
+    accepted_step(0);                /* no key is down */
+    accepted_step(1 << 3 | 1 << 9);  /* the lowest key is held */
+    accepted_step(1 << 9);           /* it is up again */
+    accepted_step(0);
+
+    unsigned backs = 0;
+    while (back() == CARD_DONE) {
+        backs++;
+    }
+    expect(back() == CARD_NOTHING_KEPT, "nothing can be left to take back");
+    printf("%u backs:  ", backs);
+    show_state();
+    expect(memcmp(desk.image, start.image, sizeof desk.image) == 0,
+           "the image is not as it was after the load");
+    expect(memcmp(desk.memory, start.memory, sizeof desk.memory) == 0,
+           "the memory is not as it was after the load");
+    expect(memcmp(desk.picture, start.picture, sizeof desk.picture) == 0,
+           "the picture is not as it was after the load");
+}
+
+/* ---- A run and a play --------------------------------------------------- */
+
+static void run_and_play(void) {
+    static const uint8_t program[] = {0x60, 0x05, 0x70, 0x03, 0x61,
+                                      0x02, 0x80, 0x14, 0x00, 0xFD};
+    static const uint8_t zeros[64];
+    static const uint16_t no_keys[64];
+    static const uint8_t moves[] = {CARD_MOVE_BACK, CARD_MOVE_STEP,
+                                    CARD_MOVE_STEP, CARD_MOVE_TICK,
+                                    CARD_MOVE_BACK, CARD_MOVE_BACK};
+
+    load(program, sizeof program);
+    uint32_t refusal = run(zeros, no_keys, zeros, 64);
+    printf("run: %u steps accepted, stop %u at %04X\n",
+           (unsigned)desk.answer[CARD_ACCEPTED], (unsigned)refusal,
+           number(CARD_AT_PC));
+    expect(refusal == CARD_MACHINE_LANGUAGE, "the run ends at 00FD");
+    expect(desk.answer[CARD_ACCEPTED] == 4, "four steps come before 00FD");
+    expect(desk.image[CARD_AT_V] == 0x0A, "5 and 3 and 2 is 10");
+
+    refusal = play(moves, no_keys, zeros, sizeof moves);
+    printf("play: %zu moves, the last one gave %u: ", sizeof moves,
+           (unsigned)refusal);
+    show_state();
+    expect(refusal == CARD_DONE, "the last back of the play is accepted");
+    expect(number(CARD_AT_PC) == 0x0206, "the play ends before 8014");
+    expect(number(CARD_AT_KEPT) == 3, "the play leaves three actions");
+
+    expect(run(zeros, no_keys, zeros, 0) == CARD_DONE, "an empty run is done");
+    expect(play(zeros, no_keys, zeros, 0) == CARD_DONE,
+           "an empty play is done");
+}
+
+/* ---- Every refusal ------------------------------------------------------ */
+
+static struct desk before;
+
+/* A desk with this instruction at 0200 and everything kept for comparison. */
+static void prepare(unsigned word) {
+    uint8_t program[2] = {(uint8_t)(word >> 8), (uint8_t)word};
+    load(program, sizeof program);
+    memset(desk.answer, 0, sizeof desk.answer);
+}
+
+static void remember(void) {
+    memcpy(&before, &desk, sizeof desk);
+}
+
+static void refused(uint32_t got, uint32_t wanted, const char *what) {
+    printf("refusal %2u: %s\n", (unsigned)got, what);
+    expect(got == wanted, "another number was expected");
+    expect(memcmp(&before, &desk, sizeof desk) == 0,
+           "a refused call changed a buffer");
+}
+
+static void refusals(void) {
+    prepare(0x6000);
+    set_number(CARD_AT_PC, 4095);
+    remember();
+    refused(step(0, 0), CARD_PROGRAM_COUNTER, "a step with PC 4095");
+
+    prepare(0x8003);
+    remember();
+    refused(step(0, 0), CARD_NOT_LISTED, "8003 is not listed");
+
+    prepare(0x00FD);
+    remember();
+    refused(step(0, 0), CARD_MACHINE_LANGUAGE, "00FD is machine language");
+
+    prepare(0x2200);
+    for (int count = 0; count < CARD_STACK; count++) {
+        expect(step(0, 0) == CARD_DONE, "twelve calls are accepted");
+    }
+    memset(desk.answer, 0, sizeof desk.answer);
+    remember();
+    refused(step(0, 0), CARD_STACK_FULL, "the thirteenth call");
+
+    prepare(0x00EE);
+    remember();
+    refused(step(0, 0), CARD_STACK_EMPTY, "a return at depth 0");
+
+    prepare(0xF155);
+    set_number(CARD_AT_I, 0x0FFF);
+    remember();
+    refused(step(0, 0), CARD_PAST_MEMORY, "two bytes stored from 0FFF");
+
+    prepare(0x6000);
+    remember();
+    refused(back(), CARD_NOTHING_KEPT, "a back with an empty history");
+
+    prepare(0x6000);
+    remember();
+    refused(load(PROGRAM, 0), CARD_PROGRAM_LENGTH, "an empty program");
+
+    refused(after_call(card_step(desk.image, sizeof desk.image,
+                                 desk.memory, sizeof desk.memory - 1,
+                                 desk.picture, sizeof desk.picture,
+                                 desk.history, sizeof desk.history,
+                                 0, 0, desk.answer, CARD_ANSWER)),
+            CARD_LENGTH, "a memory of 4,095 bytes");
+    refused(after_call(card_tick(desk.image, sizeof desk.image - 1,
+                                 desk.history, sizeof desk.history)),
+            CARD_LENGTH, "an image of 63 bytes");
+    refused(after_call(card_back(desk.image, sizeof desk.image,
+                                 desk.memory, sizeof desk.memory,
+                                 desk.picture, sizeof desk.picture,
+                                 desk.history, CARD_HISTORY_LEAST - 1)),
+            CARD_LENGTH, "a history of 287 bytes");
+
+    prepare(0x6000);
+    desk.image[CARD_AT_DEPTH] = CARD_STACK + 1;
+    remember();
+    refused(step(0, 0), CARD_UNSOUND, "depth 13");
+
+    prepare(0x6000);
+    desk.image[CARD_AT_LATER] = 1;
+    remember();
+    refused(tick(), CARD_UNSOUND, "a byte kept for later is not 0");
+
+    prepare(0x6001);
+    expect(step(0, 0) == CARD_DONE, "6001 is accepted");
+    desk.history[0] ^= 1;
+    remember();
+    refused(back(), CARD_DAMAGED_RECORD, "a record with a wrong mark");
+}
+
+/* ---- One place only ----------------------------------------------------- */
+
+static void one_place(void) {
+    prepare(0x7001);
+    put_instruction(0x0202, 0x7001);
+    for (int count = 0; count < 2; count++) {
+        uint32_t refusal =
+            after_call(card_step(desk.image, sizeof desk.image,
+                                 desk.memory, sizeof desk.memory,
+                                 desk.picture, sizeof desk.picture,
+                                 desk.history, CARD_PLACE,
+                                 0, 0, desk.answer, CARD_ANSWER));
+        expect(refusal == CARD_DONE, "a step with one place is accepted");
+    }
+    for (int count = 0; count < 2; count++) {
+        uint32_t refusal =
+            after_call(card_back(desk.image, sizeof desk.image,
+                                 desk.memory, sizeof desk.memory,
+                                 desk.picture, sizeof desk.picture,
+                                 desk.history, CARD_PLACE));
+        printf("one place, back %d: %u\n", count + 1, (unsigned)refusal);
+        expect(refusal == (count == 0 ? CARD_DONE : CARD_NOTHING_KEPT),
+               "one place takes back one action");
+    }
+    expect(desk.image[CARD_AT_V] == 1, "the first step stands");
+}
+
+int main(void) {
+    there_and_back();
+    run_and_play();
+    refusals();
+    one_place();
+    if (surprises > 0) {
+        printf("%d surprises\n", surprises);
+        return 1;
+    }
+    printf("no surprise\n");
+    return 0;
+}

@@ -1,0 +1,223 @@
+//! Steps a second of the card's archive, beside the hand-tuned engine and
+//! beside the floor: only clearing the 288 bytes of each action's record.
+//!
+//! Everything is measured in one run, in turns, so that whatever else the
+//! computer does meets all of them alike.
+
+use std::fmt;
+use std::hint::black_box;
+use std::time::Instant;
+
+use harness::engine::{Archive, Buffers, Engine, Tuned, ACCEPTED, ANSWER};
+use harness::second::{HISTORY_MOST, IMAGE, LIST_MOST, MEMORY, PICTURE, PLACE};
+
+const TURNS: usize = 25;
+const LISTS_A_TURN: usize = 10;
+/// The longest history, and a short one.
+const HISTORIES: [usize; 2] = [HISTORY_MOST, 8 * PLACE];
+
+/// Endless loops of our own, in which no step is ever refused.
+const PROGRAMS: [(&str, &[u16]); 4] = [
+    (
+        "arithmetic",
+        &[
+            0x6001, 0x7103, 0x8014, 0x8125, 0x8231, 0x8302, 0x3400, 0x7405, 0xC5FF, 0x9570, 0x8750,
+            0x1200,
+        ],
+    ),
+    (
+        "drawing",
+        &[
+            0xA000, 0xDAB5, 0x7A07, 0xDAB8, 0x7B05, 0xDABF, 0xDBA5, 0xDBAA, 0x1202,
+        ],
+    ),
+    (
+        "store and fetch",
+        &[
+            0xA600, 0xF755, 0xFF65, 0xFF55, 0xF733, 0xF365, 0x7A01, 0x1200,
+        ],
+    ),
+    (
+        "calls",
+        &[
+            0x2204, 0x1200, 0x2208, 0x00EE, 0x220C, 0x00EE, 0x7001, 0x00EE,
+        ],
+    ),
+];
+
+fn main() {
+    println!("Millions of steps a second: the best of {TURNS} turns, the median in brackets");
+    for history_length in HISTORIES {
+        println!("\nA history of {history_length} bytes");
+        let measured: Vec<(&str, Measured)> = PROGRAMS
+            .iter()
+            .map(|(name, words)| (*name, measure(words, history_length)))
+            .collect();
+        print_runs(&measured);
+        print_steps(&measured);
+    }
+}
+
+fn print_runs(measured: &[(&str, Measured)]) {
+    println!(
+        "{:<15} | {:<15} | {:<15} | {:<15} | card/tuned | floor/card",
+        "a run", "card_run", "tuned", "floor"
+    );
+    for (name, m) in measured {
+        let to_tuned = m.card_run.best / m.tuned_run.best;
+        let to_floor = m.floor.best / m.card_run.best;
+        println!(
+            "{name:<15} | {} | {} | {} | {to_tuned:>10.2} | {to_floor:>10.2}",
+            m.card_run, m.tuned_run, m.floor
+        );
+    }
+}
+
+fn print_steps(measured: &[(&str, Measured)]) {
+    println!(
+        "{:<15} | {:<15} | {:<15} | {:<15} | card/tuned |",
+        "one by one", "card_step", "tuned", ""
+    );
+    for (name, m) in measured {
+        let to_tuned = m.card_step.best / m.tuned_step.best;
+        println!(
+            "{name:<15} | {} | {} | {:<15} | {to_tuned:>10.2} |",
+            m.card_step, m.tuned_step, ""
+        );
+    }
+}
+
+/// Millions of steps a second.
+struct Speed {
+    best: f64,
+    median: f64,
+}
+
+impl fmt::Display for Speed {
+    fn fmt(&self, f: &mut fmt::Formatter) -> fmt::Result {
+        write!(f, "{:>6.1} ({:>6.1})", self.best, self.median)
+    }
+}
+
+struct Measured {
+    card_run: Speed,
+    tuned_run: Speed,
+    floor: Speed,
+    card_step: Speed,
+    tuned_step: Speed,
+}
+
+/// Takes all five in turns on one program.
+fn measure(words: &[u16], history_length: usize) -> Measured {
+    let mut card = Desk::new(words, history_length, &Archive);
+    let mut tuned = Desk::new(words, history_length, &Tuned);
+    let mut cleared = vec![1; history_length];
+    let mut speeds: [Vec<f64>; 5] = Default::default();
+    for _ in 0..TURNS {
+        speeds[0].push(speed(|| card.run()));
+        speeds[1].push(speed(|| tuned.run()));
+        speeds[2].push(speed(|| clear_places(&mut cleared)));
+        speeds[3].push(speed(|| card.steps()));
+        speeds[4].push(speed(|| tuned.steps()));
+    }
+    let [card_run, tuned_run, floor, card_step, tuned_step] = speeds.map(best_and_median);
+    Measured {
+        card_run,
+        tuned_run,
+        floor,
+        card_step,
+        tuned_step,
+    }
+}
+
+/// The speed of one turn of a function that makes a list of steps.
+fn speed(mut make_list: impl FnMut()) -> f64 {
+    let start = Instant::now();
+    for _ in 0..LISTS_A_TURN {
+        make_list();
+    }
+    let steps = (LISTS_A_TURN * LIST_MOST) as f64;
+    steps / start.elapsed().as_secs_f64() / 1e6
+}
+
+fn best_and_median(mut speeds: Vec<f64>) -> Speed {
+    speeds.sort_by(f64::total_cmp);
+    Speed {
+        best: speeds[speeds.len() - 1],
+        median: speeds[speeds.len() / 2],
+    }
+}
+
+/// What every engine of this contract must do at the least.
+fn clear_places(history: &mut [u8]) {
+    let places = history.as_chunks_mut::<PLACE>().0;
+    let mut next = 0;
+    for _ in 0..LIST_MOST {
+        black_box(&mut places[next]).fill(0);
+        next += 1;
+        if next == places.len() {
+            next = 0;
+        }
+    }
+    black_box(history);
+}
+
+/// A loaded machine with an engine and its lists.
+struct Desk<'a, E> {
+    engine: &'a E,
+    image: Vec<u8>,
+    memory: Vec<u8>,
+    picture: Vec<u8>,
+    history: Vec<u8>,
+    ticks: Vec<u8>,
+    keys: Vec<u16>,
+    randoms: Vec<u8>,
+}
+
+impl<E: Engine> Desk<'_, E> {
+    fn new<'a>(words: &[u16], history_length: usize, engine: &'a E) -> Desk<'a, E> {
+        let mut desk = Desk {
+            engine,
+            image: vec![0; IMAGE],
+            memory: vec![0; MEMORY],
+            picture: vec![0; PICTURE],
+            history: vec![0; history_length],
+            ticks: vec![0; LIST_MOST],
+            keys: vec![0; LIST_MOST],
+            randoms: (0..LIST_MOST).map(|entry| entry as u8).collect(),
+        };
+        let program: Vec<u8> = words.iter().flat_map(|word| word.to_be_bytes()).collect();
+        let refusal = engine.load(desk.parts().0, &program);
+        assert_eq!(refusal, 0, "a program of the measurements is loaded");
+        desk
+    }
+
+    /// The four buffers, then the three lists.
+    fn parts(&mut self) -> (Buffers<'_>, &[u8], &[u16], &[u8]) {
+        let buffers = Buffers {
+            image: &mut self.image,
+            memory: &mut self.memory,
+            picture: &mut self.picture,
+            history: &mut self.history,
+        };
+        (buffers, &self.ticks, &self.keys, &self.randoms)
+    }
+
+    fn run(&mut self) {
+        let engine = self.engine;
+        let mut answer = [0; ANSWER];
+        let (buffers, ticks, keys, randoms) = self.parts();
+        let refusal = engine.run(buffers, ticks, keys, randoms, &mut answer);
+        assert_eq!((refusal, answer[ACCEPTED]), (0, LIST_MOST as u64));
+    }
+
+    fn steps(&mut self) {
+        let engine = self.engine;
+        let mut answer = [0; ANSWER];
+        for entry in 0..LIST_MOST {
+            let (buffers, _, keys, randoms) = self.parts();
+            let refusal = engine.step(buffers, keys[entry], randoms[entry], &mut answer);
+            assert_eq!((refusal, answer[ACCEPTED]), (0, 1));
+        }
+    }
+}

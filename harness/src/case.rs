@@ -1,0 +1,254 @@
+//! A case of the comparison: what a host holds at first and the calls it makes.
+//! It is plain data, so it can be repeated, cut short and printed.
+
+use std::fmt;
+
+use crate::engine::Buffers;
+use crate::second::{Machine, IMAGE, PLACE};
+
+/// What a host holds.
+#[derive(Clone, Debug, PartialEq, Eq)]
+pub struct Host {
+    pub image: Vec<u8>,
+    pub memory: Vec<u8>,
+    pub picture: Vec<u8>,
+    pub history: Vec<u8>,
+}
+
+#[derive(Clone, Copy, Debug, PartialEq, Eq)]
+pub enum Part {
+    Image,
+    Memory,
+    Picture,
+    History,
+}
+
+#[derive(Clone, Debug, PartialEq, Eq)]
+pub enum Call {
+    Load {
+        program: Vec<u8>,
+    },
+    Step {
+        keys: u16,
+        random: u8,
+        answer_length: usize,
+    },
+    Tick,
+    Back,
+    Run {
+        ticks: Vec<u8>,
+        keys: Vec<u16>,
+        randoms: Vec<u8>,
+        answer_length: usize,
+    },
+    Play {
+        moves: Vec<u8>,
+        keys: Vec<u16>,
+        randoms: Vec<u8>,
+    },
+    /// No call: the host itself writes bytes into a buffer. What would fall
+    /// outside is left out.
+    Write {
+        part: Part,
+        at: usize,
+        bytes: Vec<u8>,
+    },
+}
+
+#[derive(Clone, Debug, PartialEq, Eq)]
+pub struct Case {
+    pub start: Host,
+    pub calls: Vec<Call>,
+}
+
+/// The lists that a call is lent; most calls are lent none.
+pub struct Lists<'a> {
+    /// A program, ticks or moves.
+    pub first: &'a [u8],
+    pub keys: &'a [u16],
+    pub randoms: &'a [u8],
+}
+
+impl Call {
+    pub fn lists(&self) -> Lists<'_> {
+        let (first, keys, randoms): (&[u8], &[u16], &[u8]) = match self {
+            Call::Load { program } => (program, &[], &[]),
+            Call::Run {
+                ticks: first,
+                keys,
+                randoms,
+                ..
+            }
+            | Call::Play {
+                moves: first,
+                keys,
+                randoms,
+            } => (first, keys, randoms),
+            _ => (&[], &[], &[]),
+        };
+        Lists {
+            first,
+            keys,
+            randoms,
+        }
+    }
+
+    pub fn answer_length(&self) -> usize {
+        match self {
+            Call::Step { answer_length, .. } | Call::Run { answer_length, .. } => *answer_length,
+            _ => 0,
+        }
+    }
+}
+
+impl Host {
+    pub fn buffers(&mut self) -> Buffers<'_> {
+        Buffers {
+            image: &mut self.image,
+            memory: &mut self.memory,
+            picture: &mut self.picture,
+            history: &mut self.history,
+        }
+    }
+
+    pub fn part(&mut self, part: Part) -> &mut Vec<u8> {
+        match part {
+            Part::Image => &mut self.image,
+            Part::Memory => &mut self.memory,
+            Part::Picture => &mut self.picture,
+            Part::History => &mut self.history,
+        }
+    }
+}
+
+/// The host's own write.
+pub fn write_bytes(buffer: &mut [u8], at: usize, bytes: &[u8]) {
+    for (offset, byte) in bytes.iter().enumerate() {
+        if let Some(spot) = buffer.get_mut(at + offset) {
+            *spot = *byte;
+        }
+    }
+}
+
+// ---- Printing -------------------------------------------------------------
+
+impl fmt::Display for Case {
+    fn fmt(&self, f: &mut fmt::Formatter) -> fmt::Result {
+        writeln!(f, "start")?;
+        write!(f, "{}", self.start)?;
+        for (number, call) in self.calls.iter().enumerate() {
+            writeln!(f, "call {number}: {call}")?;
+        }
+        Ok(())
+    }
+}
+
+impl fmt::Display for Host {
+    fn fmt(&self, f: &mut fmt::Formatter) -> fmt::Result {
+        writeln!(
+            f,
+            "  image ({} bytes): {}",
+            self.image.len(),
+            hex(&self.image)
+        )?;
+        if self.image.len() == IMAGE {
+            let m = Machine::from_image(&self.image);
+            writeln!(
+                f,
+                "    PC {:04X}, I {:04X}, depth {}, delay {:02X}, tone {:02X}, wait {:?}, next {}, kept {}",
+                m.pc, m.i, m.depth, m.delay, m.tone, m.wait, m.next, m.kept
+            )?;
+        }
+        buffer(f, "memory", &self.memory)?;
+        buffer(f, "picture", &self.picture)?;
+        buffer(f, "history", &self.history)?;
+        writeln!(f, "    places: {}", self.history.len() / PLACE)
+    }
+}
+
+/// Only rows with a byte other than 0 are printed.
+fn buffer(f: &mut fmt::Formatter, name: &str, bytes: &[u8]) -> fmt::Result {
+    let rest = match bytes.iter().all(|&byte| byte == 0) {
+        true => "",
+        false => " but",
+    };
+    writeln!(f, "  {name} ({} bytes), all 0{rest}", bytes.len())?;
+    for (number, row) in bytes.chunks(16).enumerate() {
+        if row.iter().any(|&byte| byte != 0) {
+            writeln!(f, "    {:04X}: {}", 16 * number, hex(row))?;
+        }
+    }
+    Ok(())
+}
+
+impl fmt::Display for Call {
+    fn fmt(&self, f: &mut fmt::Formatter) -> fmt::Result {
+        match self {
+            Call::Load { program } => {
+                let bytes = in_rows(program, |byte| format!("{byte:02X}"));
+                write!(f, "load {} bytes [{bytes}]", program.len())
+            }
+            Call::Step {
+                keys,
+                random,
+                answer_length,
+            } => write!(
+                f,
+                "step keys {keys:04X} random {random:02X} (answer of {answer_length})"
+            ),
+            Call::Tick => write!(f, "tick"),
+            Call::Back => write!(f, "back"),
+            Call::Run {
+                ticks,
+                keys,
+                randoms,
+                answer_length,
+            } => write!(
+                f,
+                "run {} (answer of {answer_length})",
+                lists("ticks", ticks, keys, randoms)
+            ),
+            Call::Play {
+                moves,
+                keys,
+                randoms,
+            } => write!(f, "play {}", lists("moves", moves, keys, randoms)),
+            Call::Write { part, at, bytes } => {
+                write!(
+                    f,
+                    "(the host writes {part:?} from {at:04X}: {})",
+                    hex(bytes)
+                )
+            }
+        }
+    }
+}
+
+fn lists(name: &str, first: &[u8], keys: &[u16], randoms: &[u8]) -> String {
+    format!(
+        "{} {name} [{}], {} keys [{}], {} randoms [{}]",
+        first.len(),
+        in_rows(first, |byte| format!("{byte:02X}")),
+        keys.len(),
+        in_rows(keys, |word| format!("{word:04X}")),
+        randoms.len(),
+        in_rows(randoms, |byte| format!("{byte:02X}"))
+    )
+}
+
+/// Equal entries one after another are printed once, with their number.
+fn in_rows<T: PartialEq>(list: &[T], print: impl Fn(&T) -> String) -> String {
+    let rows: Vec<String> = list
+        .chunk_by(|one, other| one == other)
+        .map(|row| match row.len() {
+            1 => print(&row[0]),
+            times => format!("{} x{times}", print(&row[0])),
+        })
+        .collect();
+    rows.join(" ")
+}
+
+pub fn hex(bytes: &[u8]) -> String {
+    let pairs: Vec<String> = bytes.iter().map(|byte| format!("{byte:02X}")).collect();
+    pairs.join(" ")
+}

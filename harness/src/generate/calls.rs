@@ -1,0 +1,143 @@
+//! Single calls with inputs of every kind.
+
+use super::instructions;
+use crate::case::{Call, Part};
+use crate::engine::ANSWER;
+use crate::random::Random;
+use crate::second::{Machine, LIST_MOST, MOVE_BACK, MOVE_STEP, MOVE_TICK};
+
+pub fn step(random: &Random) -> Call {
+    Call::Step {
+        keys: instructions::keys(random),
+        random: random.byte(),
+        answer_length: answer_length(random),
+    }
+}
+
+fn answer_length(random: &Random) -> usize {
+    match random.once_in(200) {
+        true => random.pick(&[0, 3, 5, 8]),
+        false => ANSWER,
+    }
+}
+
+pub fn run(entries: usize, random: &Random) -> Call {
+    let often = random.within(1..=8);
+    let most = random.pick(&[0, 0, 1, 3, 9]);
+    Call::Run {
+        ticks: (0..entries)
+            .map(|_| match random.once_in(often) {
+                true => random.within(0..=most) as u8,
+                false => 0,
+            })
+            .collect(),
+        keys: keys(entries, random),
+        randoms: random.bytes(entries),
+        answer_length: answer_length(random),
+    }
+}
+
+pub fn play(entries: usize, random: &Random) -> Call {
+    let moves = match random.within(0..=2) {
+        0 => [MOVE_STEP, MOVE_STEP, MOVE_STEP, MOVE_TICK, MOVE_BACK],
+        1 => [MOVE_STEP, MOVE_TICK, MOVE_BACK, MOVE_BACK, MOVE_BACK],
+        _ => [MOVE_STEP, MOVE_STEP, MOVE_TICK, MOVE_BACK, MOVE_BACK],
+    };
+    Call::Play {
+        moves: (0..entries).map(|_| random.pick(&moves)).collect(),
+        keys: keys(entries, random),
+        randoms: random.bytes(entries),
+    }
+}
+
+fn keys(entries: usize, random: &Random) -> Vec<u16> {
+    (0..entries).map(|_| instructions::keys(random)).collect()
+}
+
+pub fn load(random: &Random) -> Call {
+    let length = match random.within(0..=3) {
+        0 => random.pick(&[0, 1, 2, 3, 3583, 3584, 3585, 3586, 4096, 5000]),
+        _ => random.within(1..=60),
+    };
+    Call::Load {
+        program: random.bytes(length),
+    }
+}
+
+/// Any call at all.
+pub fn any(random: &Random) -> Call {
+    match random.within(0..=7) {
+        0 => load(random),
+        1 | 2 => step(random),
+        3 => Call::Tick,
+        4 => Call::Back,
+        5 => run(random.within(0..=5), random),
+        6 => play(random.within(0..=5), random),
+        _ => {
+            let mut call = match random.once_in(2) {
+                true => run(random.within(0..=3), random),
+                false => play(random.within(0..=3), random),
+            };
+            spoil_lists(&mut call, random);
+            call
+        }
+    }
+}
+
+/// Makes lists unequal or too long, or puts in a move that there is not.
+pub fn spoil_lists(call: &mut Call, random: &Random) {
+    let (first, keys, randoms) = match call {
+        Call::Run {
+            ticks,
+            keys,
+            randoms,
+            ..
+        } => (ticks, keys, randoms),
+        Call::Play {
+            moves,
+            keys,
+            randoms,
+        } => {
+            if random.once_in(2) && !moves.is_empty() {
+                let at = random.pick(&[0, moves.len() - 1, random.within(0..=moves.len() - 1)]);
+                moves[at] = random.pick(&[3, 4, 128, 255]);
+                return;
+            }
+            (moves, keys, randoms)
+        }
+        _ => return,
+    };
+    let other = |length: usize, random: &Random| match random.within(0..=2) {
+        0 => length + 1,
+        1 => length.saturating_sub(1),
+        _ => random.pick(&[0, LIST_MOST, LIST_MOST + 1]),
+    };
+    match random.within(0..=3) {
+        0 => first.resize(other(first.len(), random), 0),
+        1 => keys.resize(other(keys.len(), random), 0),
+        2 => randoms.resize(other(randoms.len(), random), 0),
+        _ => {
+            let length = random.pick(&[LIST_MOST + 1, LIST_MOST + 2, 2 * LIST_MOST]);
+            first.resize(length, 0);
+            keys.resize(length, 0);
+            randoms.resize(length, 0);
+        }
+    }
+}
+
+/// The host writes a whole image.
+pub fn write_image(machine: &Machine) -> Call {
+    Call::Write {
+        part: Part::Image,
+        at: 0,
+        bytes: machine.to_image().to_vec(),
+    }
+}
+
+pub fn write_memory(at: u16, word: u16) -> Call {
+    Call::Write {
+        part: Part::Memory,
+        at: usize::from(at),
+        bytes: word.to_be_bytes().to_vec(),
+    }
+}

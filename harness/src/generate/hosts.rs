@@ -1,0 +1,132 @@
+//! What a host holds at the start of a case.
+
+use super::instructions;
+use crate::case::Host;
+use crate::random::Random;
+use crate::second::{Machine, HISTORY_MOST, MEMORY, PICTURE, PLACE, STACK};
+
+/// Mostly few places, so that they are soon used up and compared quickly; the
+/// bytes after the last place are any number.
+pub fn history_length(random: &Random) -> usize {
+    let places = match random.within(0..=19) {
+        0 => random.within(4..=40),
+        1 if random.once_in(4) => random.within(1..=227),
+        2 if random.once_in(4) => return HISTORY_MOST,
+        3..=9 => 1,
+        10..=14 => 2,
+        _ => 3,
+    };
+    let rest = random.pick(&[0, 0, 0, 1, 31, 287]);
+    (PLACE * places + rest).min(HISTORY_MOST)
+}
+
+/// A walk goes far, so it has use for more places.
+pub fn walk_history_length(random: &Random) -> usize {
+    match random.within(0..=3) {
+        0 => PLACE * random.within(4..=40) + random.within(0..=PLACE - 1),
+        1 if random.once_in(4) => PLACE * random.within(41..=227),
+        _ => history_length(random),
+    }
+}
+
+/// A sound machine of any kind, with an empty history.
+pub fn machine(places: usize, random: &Random) -> Machine {
+    let mut machine = Machine::fresh();
+    for register in 0..16 {
+        machine.v[register] = instructions::value(random);
+    }
+    machine.i = instructions::i_for(0, random);
+    machine.pc = instructions::pc(random);
+    set_depth(&mut machine, random);
+    machine.delay = random.pick(&[0, 1, 2, 255, random.byte()]);
+    machine.tone = random.pick(&[0, 1, 2, 255, random.byte()]);
+    machine.wait = random.pick(&[None, None, Some(random.byte() & 15)]);
+    machine.next = random.pick(&[0, places - 1, random.within(0..=places - 1)]) as u16;
+    machine
+}
+
+pub fn set_depth(machine: &mut Machine, random: &Random) {
+    let depth = random.pick(&[0, 1, 11, 12, random.within(0..=STACK)]);
+    machine.depth = depth as u8;
+    machine.stack = [0; STACK];
+    for entry in 0..depth {
+        machine.stack[entry] = instructions::pc(random);
+    }
+}
+
+/// A sound host: random memory, a picture, and a history of random bytes.
+pub fn sound(random: &Random) -> Host {
+    let length = history_length(random);
+    let machine = machine(length / PLACE, random);
+    Host {
+        image: machine.to_image().to_vec(),
+        memory: random.bytes(MEMORY),
+        picture: picture(random),
+        history: history_bytes(length, random),
+    }
+}
+
+fn picture(random: &Random) -> Vec<u8> {
+    match random.within(0..=3) {
+        0 => vec![0; PICTURE],
+        1 => vec![0xFF; PICTURE],
+        _ => random.bytes(PICTURE),
+    }
+}
+
+/// Bytes that are not 0 show what a record fails to clear.
+fn history_bytes(length: usize, random: &Random) -> Vec<u8> {
+    match random.within(0..=1) {
+        0 if length < 4000 => random.bytes(length),
+        _ => vec![random.byte(); length],
+    }
+}
+
+/// A kept number, often 0 or all.
+pub fn kept(places: usize, random: &Random) -> u16 {
+    random.pick(&[0, 1, places, random.within(0..=places)]) as u16
+}
+
+/// Makes an image unsound, or puts its numbers out of range, in one way.
+pub fn spoil_image(image: &mut [u8], places: usize, random: &Random) {
+    let number = |value: usize| (value as u16).to_be_bytes();
+    match random.within(0..=5) {
+        0 => image[20] = random.pick(&[13, 14, 16, 128, 255]),
+        1 => {
+            let depth = random.within(0..=STACK - 1);
+            image[20] = depth as u8;
+            let entry = random.within(depth..=STACK - 1);
+            image[24 + 2 * entry + random.within(0..=1)] = random.pick(&[1, 2, 128, 255]);
+        }
+        2 => image[23] = random.within(16..=254) as u8,
+        3 => image[random.within(52..=63)] = random.pick(&[1, 128, 255]),
+        4 => {
+            let next = random.pick(&[places, places + 1, 256, 0x8000, 0xFFFF]);
+            image[48..50].copy_from_slice(&number(next));
+        }
+        _ => {
+            let kept = random.pick(&[places + 1, places + 2, 256, 0x8000, 0xFFFF]);
+            image[50..52].copy_from_slice(&number(kept));
+        }
+    }
+}
+
+/// Gives one buffer another length, often one next to a limit.
+pub fn spoil_lengths(host: &mut Host, random: &Random) {
+    match random.within(0..=3) {
+        0 => resize(&mut host.image, &[0, 1, 52, 63, 65, 128], random),
+        1 => resize(&mut host.memory, &[0, 256, 3584, 4095, 4097, 8192], random),
+        2 => resize(&mut host.picture, &[0, 255, 257, 512, 1024], random),
+        _ => resize(
+            &mut host.history,
+            &[
+                0, 1, 287, 288, 289, 575, 576, 577, 65_376, 65_535, 65_536, 65_537, 65_824, 131_072,
+            ],
+            random,
+        ),
+    }
+}
+
+fn resize(buffer: &mut Vec<u8>, lengths: &[usize], random: &Random) {
+    buffer.resize(random.pick(lengths), random.byte());
+}

@@ -1,0 +1,273 @@
+//! The kinds of cases.
+
+use super::{calls, hosts, instructions, programs, records};
+use crate::case::{write_bytes, Call, Case, Host, Part};
+use crate::random::Random;
+use crate::second::{
+    places, Machine, HISTORY_MOST, LIST_MOST, MEMORY, MOVE_BACK, MOVE_STEP, PICTURE, PLACE, START,
+};
+
+/// Again and again a new machine and an instruction at its PC, with operands at
+/// the edges; then a step, and sometimes the way back.
+pub fn one_instruction_at_a_time(random: &Random) -> Case {
+    let start = hosts::sound(random);
+    let places = places(&start.history);
+    let mut made = Vec::new();
+    for _ in 0..random.within(1..=24) {
+        let word = match random.within(0..=2) {
+            0 => instructions::using_memory(random),
+            _ => instructions::any(random),
+        };
+        let mut machine = hosts::machine(places, random);
+        machine.i = instructions::i_for(word, random);
+        instructions::bring_near(word, &mut machine.v, random);
+        machine.kept = hosts::kept(places, random);
+        made.push(calls::write_memory(machine.pc, word));
+        made.push(calls::write_image(&machine));
+        made.push(match random.within(0..=5) {
+            0 => calls::run(random.within(0..=4), random),
+            1 => calls::play(random.within(0..=4), random),
+            _ => calls::step(random),
+        });
+        for _ in 0..random.within(0..=2) {
+            made.push(Call::Back);
+        }
+    }
+    Case { start, calls: made }
+}
+
+/// A back onto a record that is whole, barely whole or damaged.
+pub fn back_onto_a_record(random: &Random) -> Case {
+    let start = hosts::sound(random);
+    let places = places(&start.history);
+    let mut made = Vec::new();
+    for _ in 0..random.within(1..=12) {
+        let mut machine = hosts::machine(places, random);
+        machine.kept = hosts::kept(places, random).max(1);
+        let mut record = records::whole(machine.depth, random);
+        for _ in 0..random.within(0..=2) {
+            records::spoil(&mut record, machine.depth, random);
+        }
+        let before_next = (usize::from(machine.next) + places - 1) % places;
+        made.push(Call::Write {
+            part: Part::History,
+            at: PLACE * before_next,
+            bytes: record,
+        });
+        made.push(calls::write_image(&machine));
+        made.push(match random.within(0..=3) {
+            0 => calls::play(random.within(1..=3), random),
+            _ => Call::Back,
+        });
+        if random.once_in(3) {
+            made.push(calls::any(random));
+        }
+    }
+    Case { start, calls: made }
+}
+
+/// States that are unsound, or numbers that are out of range, before any call.
+pub fn unsound(random: &Random) -> Case {
+    let mut start = hosts::sound(random);
+    let places = places(&start.history);
+    let mut made = Vec::new();
+    for _ in 0..random.within(1..=8) {
+        let machine = hosts::machine(places, random);
+        let mut image = machine.to_image();
+        hosts::spoil_image(&mut image, places, random);
+        made.push(Call::Write {
+            part: Part::Image,
+            at: 0,
+            bytes: image.to_vec(),
+        });
+        made.push(calls::any(random));
+    }
+    if random.once_in(4) {
+        hosts::spoil_lengths(&mut start, random);
+    }
+    Case { start, calls: made }
+}
+
+/// Buffers around every limit; sometimes more than one thing is wrong at once,
+/// which shows the order of the refusals.
+pub fn wrong_lengths(random: &Random) -> Case {
+    let mut start = hosts::sound(random);
+    if random.once_in(4) {
+        let places = places(&start.history);
+        hosts::spoil_image(&mut start.image, places, random);
+    }
+    for _ in 0..random.pick(&[1, 1, 1, 2, 3]) {
+        hosts::spoil_lengths(&mut start, random);
+    }
+    let made = (0..random.within(2..=8))
+        .map(|_| calls::any(random))
+        .collect();
+    Case { start, calls: made }
+}
+
+/// Loads onto buffers full of other things, and a few calls after them.
+pub fn loads(random: &Random) -> Case {
+    let start = hosts::sound(random);
+    let mut made = Vec::new();
+    for _ in 0..random.within(1..=3) {
+        made.push(calls::load(random));
+        for _ in 0..random.within(0..=6) {
+            made.push(calls::any(random));
+        }
+    }
+    Case { start, calls: made }
+}
+
+/// FX0A after FX0A, while few keys go up and down.
+pub fn key_waits(random: &Random) -> Case {
+    let mut start = hosts::sound(random);
+    let mut machine = hosts::machine(places(&start.history), random);
+    machine.pc = START;
+    for at in 0..20 {
+        let x = u16::from(random.byte() & 15) << 8;
+        let word = match random.within(0..=3) {
+            0 => instructions::listed(random),
+            _ => 0xF00A | x,
+        };
+        let at = usize::from(START) + 2 * at;
+        write_bytes(&mut start.memory, at, &word.to_be_bytes());
+    }
+    start.image = machine.to_image().to_vec();
+    let few = [0, 1 << random.within(0..=15), 1 << random.within(0..=15)];
+    let made = (0..random.within(10..=60))
+        .map(|_| match random.within(0..=9) {
+            0 => Call::Back,
+            1 => Call::Tick,
+            2 => calls::run(random.within(1..=4), random),
+            _ => Call::Step {
+                keys: random.pick(&few) | random.pick(&few),
+                random: random.byte(),
+                answer_length: 4,
+            },
+        })
+        .collect();
+    Case { start, calls: made }
+}
+
+/// Calls past depth 12 and returns past depth 0, and all the way back.
+pub fn deep_calls(random: &Random) -> Case {
+    let mut start = hosts::sound(random);
+    let mut machine = hosts::machine(places(&start.history), random);
+    machine.pc = START;
+    hosts::set_depth(&mut machine, random);
+    start.image = machine.to_image().to_vec();
+    for at in (0..MEMORY).step_by(2) {
+        let word = match random.within(0..=4) {
+            0 | 1 => 0x2000 | random.word() & 0x0FFE,
+            2 | 3 => 0x00EE,
+            _ => 0x6000 | random.word() & 0x0FFF,
+        };
+        write_bytes(&mut start.memory, at, &word.to_be_bytes());
+    }
+    let made = walk(40, places(&start.history), random);
+    Case { start, calls: made }
+}
+
+/// A long sequence of calls on a program that runs for long.
+pub fn walk_of_a_program(random: &Random) -> Case {
+    let mut made = vec![Call::Load {
+        program: programs::ring(random),
+    }];
+    let start = empty_host(hosts::walk_history_length(random));
+    let most = random.pick(&[60, 200, 200, 1000]);
+    made.extend(walk(most, places(&start.history), random));
+    Case { start, calls: made }
+}
+
+/// The same on a program of any instructions, from any sound state.
+pub fn walk_of_wild_bytes(random: &Random) -> Case {
+    let mut start = hosts::sound(random);
+    let program = programs::wild(random);
+    let machine = Machine {
+        pc: START,
+        ..Machine::from_image(&start.image)
+    };
+    start.image = machine.to_image().to_vec();
+    write_bytes(&mut start.memory, usize::from(START), &program);
+    let made = walk(100, places(&start.history), random);
+    Case { start, calls: made }
+}
+
+/// Steps, ticks, runs and plays, with backs in rows now and then, sometimes as
+/// far as the places reach and once more.
+fn walk(most: usize, places: usize, random: &Random) -> Vec<Call> {
+    let mut made = Vec::new();
+    let length = random.within(10..=most);
+    while made.len() < length {
+        match random.within(0..=30) {
+            0..=3 => made.push(Call::Tick),
+            4..=6 => made.push(Call::Back),
+            7 => {
+                let row = random.pick(&[2, 3, 5, 20, places, places + 1]);
+                made.extend(std::iter::repeat_n(Call::Back, row));
+            }
+            8 => made.push(calls::run(random.within(0..=12), random)),
+            9 => made.push(calls::play(random.within(0..=12), random)),
+            10 if random.once_in(8) => {
+                let mut call = calls::run(random.within(0..=4), random);
+                calls::spoil_lists(&mut call, random);
+                made.push(call);
+            }
+            _ => made.push(calls::step(random)),
+        }
+    }
+    made
+}
+
+/// Lists of a few dozen entries, on histories that come round in them.
+pub fn short_lists(random: &Random) -> Case {
+    let mut made = vec![Call::Load {
+        program: programs::ring(random),
+    }];
+    for _ in 0..random.within(1..=6) {
+        let entries = random.within(1..=80);
+        made.push(calls::run(entries, random));
+        made.push(calls::play(entries, random));
+    }
+    Case {
+        start: empty_host(hosts::walk_history_length(random)),
+        calls: made,
+    }
+}
+
+/// Lists up to the limit, and now and then runs with many ticks.
+pub fn long_lists(random: &Random) -> Case {
+    let start = empty_host(match random.once_in(3) {
+        true => HISTORY_MOST,
+        false => hosts::walk_history_length(random),
+    });
+    let mut made = vec![Call::Load {
+        program: programs::ring(random),
+    }];
+    let entries = random.pick(&[LIST_MOST - 1, LIST_MOST, random.within(100..=900)]);
+    let mut run = calls::run(entries, random);
+    if let Call::Run { ticks, .. } = &mut run {
+        let at = random.within(0..=ticks.len() - 1);
+        ticks[at] = random.pick(&[0, 3, 254, 255]);
+    }
+    made.push(run);
+    made.push(calls::play(entries, random));
+    let reach = places(&start.history);
+    let mut back_all_the_way = calls::play(reach + 1, random);
+    if let Call::Play { moves, .. } = &mut back_all_the_way {
+        moves.fill(MOVE_BACK);
+        moves[reach] = random.pick(&[MOVE_BACK, MOVE_STEP]);
+    }
+    made.push(back_all_the_way);
+    made.extend(walk(20, 2, random));
+    Case { start, calls: made }
+}
+
+fn empty_host(history_length: usize) -> Host {
+    Host {
+        image: Machine::fresh().to_image().to_vec(),
+        memory: vec![0; MEMORY],
+        picture: vec![0; PICTURE],
+        history: vec![0; history_length],
+    }
+}

@@ -1,0 +1,14 @@
+//! The host's side of the card: calls, a second interpreter, the comparison.
+
+pub mod card;
+pub mod case;
+pub mod check;
+pub mod engine;
+pub mod generate;
+pub mod guard;
+pub mod plain_list;
+pub mod random;
+pub mod second;
+pub mod shrink;
+pub mod tally;
+pub mod tuned;

@@ -1,0 +1,688 @@
+//! A hand-tuned engine behind the card's boundary, the rival of the
+//! measurements: the same records, the same refusals, as fast as safe Rust goes.
+//!
+//! A step is judged before anything is written, and nothing is allocated.
+
+const MEMORY: usize = 4096;
+const PICTURE: usize = 256;
+const ROWS: usize = 32;
+const PLACE: usize = 288;
+const HISTORY_MOST: usize = 65_536;
+const IMAGE: usize = 64;
+const ANSWER: usize = 4;
+const LIST_MOST: usize = 4096;
+const PROGRAM_MOST: usize = 3584;
+const START: usize = 0x0200;
+const NO_KEY: u8 = 0xFF;
+
+const PROGRAM_COUNTER: u32 = 1;
+const NOT_LISTED: u32 = 2;
+const MACHINE_LANGUAGE: u32 = 3;
+const STACK_FULL: u32 = 4;
+const STACK_EMPTY: u32 = 5;
+const PAST_MEMORY: u32 = 6;
+const NOTHING_KEPT: u32 = 7;
+const PROGRAM_LENGTH: u32 = 8;
+const LENGTH: u32 = 9;
+const UNSOUND: u32 = 10;
+const DAMAGED_RECORD: u32 = 11;
+
+type Memory = [u8; MEMORY];
+type Picture = [u8; PICTURE];
+type Place = [u8; PLACE];
+type Image = [u8; IMAGE];
+
+const DIGITS: [u8; 80] = [
+    0xF0, 0x90, 0x90, 0x90, 0xF0, 0x60, 0x20, 0x20, 0x20, 0x70, 0xF0, 0x10, 0xF0, 0x80, 0xF0, 0xF0,
+    0x10, 0xF0, 0x10, 0xF0, 0xA0, 0xA0, 0xF0, 0x20, 0x20, 0xF0, 0x80, 0xF0, 0x10, 0xF0, 0xF0, 0x80,
+    0xF0, 0x90, 0xF0, 0xF0, 0x10, 0x10, 0x10, 0x10, 0xF0, 0x90, 0xF0, 0x90, 0xF0, 0xF0, 0x90, 0xF0,
+    0x10, 0xF0, 0xF0, 0x90, 0xF0, 0x90, 0x90, 0xF0, 0x50, 0x70, 0x50, 0xF0, 0xF0, 0x80, 0x80, 0x80,
+    0xF0, 0xF0, 0x50, 0x50, 0x50, 0xF0, 0xF0, 0x80, 0xF0, 0x80, 0xF0, 0xF0, 0x80, 0xF0, 0x80, 0x80,
+];
+
+// ---- The working state ----------------------------------------------------
+
+/// V0 to VF as one number, V0 highest. A byte written into an array and read
+/// back as sixteen would have to wait for the write; a number need not.
+#[derive(Clone, Copy)]
+struct Registers(u128);
+
+impl Registers {
+    #[inline(always)]
+    fn get(self, x: usize) -> u8 {
+        (self.0 >> (8 * (15 - (x & 15)))) as u8
+    }
+
+    #[inline(always)]
+    fn set(&mut self, x: usize, value: u8) {
+        let shift = 8 * (15 - (x & 15));
+        self.0 = self.0 & !(0xFF << shift) | u128::from(value) << shift;
+    }
+
+    #[inline(always)]
+    fn set_flag(&mut self, flag: bool) {
+        self.0 = self.0 & !0xFF | u128::from(flag);
+    }
+}
+
+/// The first 32 bytes of a record, before its old bytes, held in numbers.
+struct Head {
+    v: u128,
+    /// I, PC, depth, last return address, delay: bytes 18 to 25.
+    middle: u64,
+    /// Tone, held key, start, count: bytes 26 to 31.
+    end: u64,
+    mark: [u8; 2],
+}
+
+impl Head {
+    #[inline(always)]
+    fn mark(&mut self, mark: &[u8; 2], start: usize, count: usize) {
+        self.mark = *mark;
+        self.end |= (start << 16 | count) as u64;
+    }
+
+    #[inline(always)]
+    fn write(&self, bytes: &mut [u8; 32]) {
+        bytes[0..2].copy_from_slice(&self.mark);
+        bytes[2..18].copy_from_slice(&self.v.to_be_bytes());
+        bytes[18..26].copy_from_slice(&self.middle.to_be_bytes());
+        // Two bytes of the middle are written once more, to write eight at once.
+        let end = self.middle << 48 | self.end;
+        bytes[24..32].copy_from_slice(&end.to_be_bytes());
+    }
+}
+
+struct Work {
+    v: Registers,
+    i: u16,
+    pc: u16,
+    depth: u8,
+    delay: u8,
+    tone: u8,
+    held: u8,
+    /// Entries 12 to 15 stay 0. So the entry before depth 0, taken modulo 16,
+    /// reads as 0, and no index needs a bounds test.
+    stack: [u16; 16],
+    next: usize,
+    kept: usize,
+}
+
+fn number(bytes: &[u8], at: usize) -> u16 {
+    u16::from_be_bytes([bytes[at], bytes[at + 1]])
+}
+
+impl Work {
+    /// None if the image is unsound or its numbers are out of range.
+    #[inline(always)]
+    fn read(image: &Image, places: usize) -> Option<Work> {
+        let mut stack = [0; 16];
+        for (entry, bytes) in stack.iter_mut().zip(image[24..48].as_chunks::<2>().0) {
+            *entry = u16::from_be_bytes(*bytes);
+        }
+        let depth = image[20];
+        let held = image[23];
+        let next = usize::from(number(image, 48));
+        let kept = usize::from(number(image, 50));
+        let sound = depth <= 12
+            && entries_from(&stack, depth) == 0
+            && (held <= 15 || held == NO_KEY)
+            && image[52..] == [0; 12]
+            && next < places
+            && kept <= places;
+        if !sound {
+            return None;
+        }
+        let v = image.first_chunk().expect("64 bytes hold 16");
+        Some(Work {
+            v: Registers(u128::from_be_bytes(*v)),
+            i: number(image, 16),
+            pc: number(image, 18),
+            depth,
+            delay: image[21],
+            tone: image[22],
+            held,
+            stack,
+            next,
+            kept,
+        })
+    }
+
+    /// The image's last twelve bytes are 0 already, or it had been refused.
+    #[inline(always)]
+    fn write(&self, image: &mut Image) {
+        image[..16].copy_from_slice(&self.v.0.to_be_bytes());
+        image[16..18].copy_from_slice(&self.i.to_be_bytes());
+        image[18..20].copy_from_slice(&self.pc.to_be_bytes());
+        image[20] = self.depth;
+        image[21] = self.delay;
+        image[22] = self.tone;
+        image[23] = self.held;
+        for (bytes, entry) in image[24..48]
+            .as_chunks_mut::<2>()
+            .0
+            .iter_mut()
+            .zip(self.stack)
+        {
+            *bytes = entry.to_be_bytes();
+        }
+        image[48..50].copy_from_slice(&(self.next as u16).to_be_bytes());
+        image[50..52].copy_from_slice(&(self.kept as u16).to_be_bytes());
+    }
+
+    /// The head of a record that keeps no old bytes.
+    #[inline(always)]
+    fn head(&self) -> Head {
+        let last = self.stack[usize::from(self.depth.wrapping_sub(1) & 15)];
+        Head {
+            v: self.v.0,
+            middle: u64::from(self.i) << 48
+                | u64::from(self.pc) << 32
+                | u64::from(self.depth) << 24
+                | u64::from(last) << 8
+                | u64::from(self.delay),
+            end: u64::from(self.tone) << 40 | u64::from(self.held) << 32,
+            mark: *b"NO",
+        }
+    }
+
+    /// Lends the place at next, holding the head and zeros, and moves on.
+    #[inline(always)]
+    fn record<'a>(&mut self, places: &'a mut [Place], head: &Head) -> &'a mut [u8; 256] {
+        let count = places.len();
+        let place = &mut places[self.next];
+        self.next += 1;
+        if self.next == count {
+            self.next = 0;
+        }
+        self.kept += usize::from(self.kept < count);
+        let (first, old) = place.split_first_chunk_mut().expect("288 hold 32");
+        head.write(first);
+        let old: &mut [u8; 256] = old.try_into().expect("288 less 32");
+        old.fill(0);
+        old
+    }
+
+    #[inline(always)]
+    fn tick(&mut self, places: &mut [Place]) {
+        let head = self.head();
+        self.record(places, &head);
+        self.delay = self.delay.saturating_sub(1);
+        self.tone = self.tone.saturating_sub(1);
+    }
+
+    /// One step, with lengths and state tested. Answers the refusal.
+    #[inline(always)]
+    fn step(
+        &mut self,
+        memory: &mut Memory,
+        picture: &mut Picture,
+        places: &mut [Place],
+        keys: u16,
+        random: u8,
+    ) -> u32 {
+        let at = usize::from(self.pc);
+        if at > MEMORY - 2 {
+            return PROGRAM_COUNTER;
+        }
+        let word = number(memory, at);
+        let low = word as u8;
+        let x = usize::from(word >> 8 & 15);
+        let y = usize::from(low >> 4);
+        let address = word & 0x0FFF;
+        let (vx, vy) = (self.v.get(x), self.v.get(y));
+        let mut head = self.head();
+        let mut pc = self.pc + 2;
+        let skip = |condition: bool| 2 * u16::from(condition);
+        let mut held = NO_KEY;
+
+        match word >> 12 {
+            0x0 => match address {
+                0x0E0 => {
+                    head.mark(b"DI", 0, PICTURE);
+                    let old = self.record(places, &head);
+                    *old = *picture;
+                    picture.fill(0);
+                    self.pc = pc;
+                    self.held = NO_KEY;
+                    return 0;
+                }
+                0x0EE => {
+                    if self.depth == 0 {
+                        return STACK_EMPTY;
+                    }
+                    self.depth -= 1;
+                    let entry = &mut self.stack[usize::from(self.depth & 15)];
+                    pc = *entry;
+                    *entry = 0;
+                }
+                _ => return MACHINE_LANGUAGE,
+            },
+            0x1 => pc = address,
+            0x2 => {
+                if self.depth == 12 {
+                    return STACK_FULL;
+                }
+                self.stack[usize::from(self.depth & 15)] = pc;
+                self.depth += 1;
+                pc = address;
+            }
+            0x3 => pc += skip(vx == low),
+            0x4 => pc += skip(vx != low),
+            0x5 if low & 15 == 0 => pc += skip(vx == vy),
+            0x6 => self.v.set(x, low),
+            0x7 => self.v.set(x, vx.wrapping_add(low)),
+            0x8 => match low & 15 {
+                0x0 => self.v.set(x, vy),
+                0x1 => self.v.set(x, vx | vy),
+                0x2 => self.v.set(x, vx & vy),
+                0x4 => {
+                    let (sum, passed) = vx.overflowing_add(vy);
+                    self.v.set(x, sum);
+                    self.v.set_flag(passed);
+                }
+                0x5 => {
+                    self.v.set(x, vx.wrapping_sub(vy));
+                    self.v.set_flag(vx >= vy);
+                }
+                _ => return NOT_LISTED,
+            },
+            0x9 if low & 15 == 0 => pc += skip(vx != vy),
+            0xA => self.i = address,
+            0xB => pc = address + u16::from(self.v.get(0)),
+            0xC => self.v.set(x, random & low),
+            0xD => {
+                let n = usize::from(low & 15);
+                if n == 0 {
+                    self.v.set_flag(false);
+                } else {
+                    let i = usize::from(self.i);
+                    let Some(pattern) = memory.get(i..i + n) else {
+                        return PAST_MEMORY;
+                    };
+                    let column = vx & 63;
+                    let row = usize::from(vy & 31);
+                    let shown = n.min(ROWS - row);
+                    head.mark(b"DI", 8 * row, 8 * shown);
+                    let old = self.record(places, &head);
+                    let rows = &mut picture.as_chunks_mut::<8>().0[row..row + shown];
+                    let mut dark = 0;
+                    for ((spots, byte), kept) in
+                        rows.iter_mut().zip(pattern).zip(old.as_chunks_mut().0)
+                    {
+                        let before = u64::from_be_bytes(*spots);
+                        let bits = u64::from(*byte) << 56 >> column;
+                        *kept = *spots;
+                        *spots = (before ^ bits).to_be_bytes();
+                        dark |= before & bits;
+                    }
+                    self.v.set_flag(dark != 0);
+                    self.pc = pc;
+                    self.held = NO_KEY;
+                    return 0;
+                }
+            }
+            0xE => {
+                let down = keys >> (vx & 15) & 1 == 1;
+                match low {
+                    0x9E => pc += skip(down),
+                    0xA1 => pc += skip(!down),
+                    _ => return NOT_LISTED,
+                }
+            }
+            0xF => match low {
+                0x07 => self.v.set(x, self.delay),
+                0x0A => {
+                    if self.held == NO_KEY {
+                        pc = self.pc;
+                        if keys != 0 {
+                            held = keys.trailing_zeros() as u8;
+                        }
+                    } else if keys >> (self.held & 15) & 1 == 1 {
+                        pc = self.pc;
+                        held = self.held;
+                    } else {
+                        self.v.set(x, self.held);
+                    }
+                }
+                0x15 => self.delay = vx,
+                0x18 => self.tone = vx,
+                0x1E => self.i = self.i.wrapping_add(u16::from(vx)),
+                0x29 => self.i = 5 * u16::from(vx & 15),
+                0x33 => {
+                    let i = usize::from(self.i);
+                    let Some(bytes) = memory.get_mut(i..i + 3) else {
+                        return PAST_MEMORY;
+                    };
+                    head.mark(b"ME", i, 3);
+                    let old = self.record(places, &head);
+                    old[..3].copy_from_slice(bytes);
+                    bytes.copy_from_slice(&[vx / 100, vx / 10 % 10, vx % 10]);
+                    self.pc = pc;
+                    self.held = NO_KEY;
+                    return 0;
+                }
+                0x55 => {
+                    let i = usize::from(self.i);
+                    if i + x + 1 > MEMORY {
+                        return PAST_MEMORY;
+                    }
+                    head.mark(b"ME", i, x + 1);
+                    let old = self.record(places, &head);
+                    store(memory, i, x, self.v, old);
+                    self.i += x as u16 + 1;
+                    self.pc = pc;
+                    self.held = NO_KEY;
+                    return 0;
+                }
+                0x65 => {
+                    let i = usize::from(self.i);
+                    if i + x + 1 > MEMORY {
+                        return PAST_MEMORY;
+                    }
+                    fetch(memory, i, x, &mut self.v);
+                    self.i += x as u16 + 1;
+                }
+                _ => return NOT_LISTED,
+            },
+            _ => return NOT_LISTED,
+        }
+
+        // Only actions that keep no old bytes come here, so there is one
+        // place in the code that writes their record.
+        self.record(places, &head);
+        self.pc = pc;
+        self.held = held;
+        0
+    }
+
+    #[inline(always)]
+    fn back(&mut self, memory: &mut Memory, picture: &mut Picture, places: &[Place]) -> u32 {
+        if self.kept == 0 {
+            return NOTHING_KEPT;
+        }
+        let before = match self.next {
+            0 => places.len() - 1,
+            next => next - 1,
+        };
+        let record = &places[before];
+        let depth = record[22];
+        let last = number(record, 23);
+        let held = record[27];
+        let start = usize::from(number(record, 28));
+        let count = usize::from(number(record, 30));
+        if depth > 12
+            || depth.abs_diff(self.depth) > 1
+            || (depth == 0 && last != 0)
+            || (held > 15 && held != NO_KEY)
+        {
+            return DAMAGED_RECORD;
+        }
+        match [record[0], record[1]] {
+            [b'N', b'O'] if start == 0 && count == 0 => {}
+            [b'M', b'E'] if (1..=16).contains(&count) && start + count <= MEMORY => {
+                memory[start..start + count].copy_from_slice(&record[32..32 + count]);
+            }
+            [b'D', b'I'] if (1..=256).contains(&count) && start + count <= PICTURE => {
+                picture[start..start + count].copy_from_slice(&record[32..32 + count]);
+            }
+            _ => return DAMAGED_RECORD,
+        }
+        let v = record[2..].first_chunk().expect("286 hold 16");
+        self.v = Registers(u128::from_be_bytes(*v));
+        self.i = number(record, 18);
+        self.pc = number(record, 20);
+        self.depth = depth;
+        if depth > 0 {
+            self.stack[usize::from(depth - 1)] = last;
+        }
+        self.stack[usize::from(depth)..].fill(0);
+        self.delay = record[25];
+        self.tone = record[26];
+        self.held = held;
+        self.next = before;
+        self.kept -= 1;
+        0
+    }
+}
+
+/// All stack entries at and above the depth, one over the other. Looking at
+/// every entry without a branch is quicker than stopping at the first.
+#[inline(always)]
+fn entries_from(stack: &[u16; 16], depth: u8) -> u16 {
+    let mut over = 0;
+    for (entry, number) in (0u16..).zip(stack) {
+        over |= if entry >= u16::from(depth) {
+            *number
+        } else {
+            0
+        };
+    }
+    over
+}
+
+/// The bytes of V0 to VX in a 16-byte number.
+#[inline(always)]
+fn up_to(x: usize) -> u128 {
+    u128::MAX << (8 * (15 - x))
+}
+
+/// Away from the end of memory sixteen bytes are taken at once and masked.
+#[inline(always)]
+fn store(memory: &mut Memory, i: usize, x: usize, v: Registers, old: &mut [u8; 256]) {
+    if let Some(bytes) = memory[i..].first_chunk_mut::<16>() {
+        let before = u128::from_be_bytes(*bytes);
+        let kept = before & up_to(x);
+        *bytes = (before ^ kept | v.0 & up_to(x)).to_be_bytes();
+        old[..16].copy_from_slice(&kept.to_be_bytes());
+    } else {
+        let bytes = &mut memory[i..i + x + 1];
+        old[..x + 1].copy_from_slice(bytes);
+        bytes.copy_from_slice(&v.0.to_be_bytes()[..x + 1]);
+    }
+}
+
+#[inline(always)]
+fn fetch(memory: &Memory, i: usize, x: usize, v: &mut Registers) {
+    let mut bytes = [0; 16];
+    if let Some(sixteen) = memory[i..].first_chunk() {
+        bytes = *sixteen;
+    } else {
+        bytes[..x + 1].copy_from_slice(&memory[i..i + x + 1]);
+    }
+    v.0 = v.0 & !up_to(x) | u128::from_be_bytes(bytes) & up_to(x);
+}
+
+// ---- The six calls --------------------------------------------------------
+
+fn places_of(history: &[u8]) -> Option<&[Place]> {
+    (PLACE..=HISTORY_MOST)
+        .contains(&history.len())
+        .then_some(history.as_chunks().0)
+}
+
+fn places_of_mut(history: &mut [u8]) -> Option<&mut [Place]> {
+    (PLACE..=HISTORY_MOST)
+        .contains(&history.len())
+        .then_some(history.as_chunks_mut().0)
+}
+
+pub fn load(
+    program: &[u8],
+    image: &mut [u8],
+    memory: &mut [u8],
+    picture: &mut [u8],
+    history: &mut [u8],
+) -> u32 {
+    let Ok(image) = <&mut Image>::try_from(image) else {
+        return LENGTH;
+    };
+    image.fill(0);
+    image[18..20].copy_from_slice(&(START as u16).to_be_bytes());
+    image[23] = NO_KEY;
+    if memory.len() != MEMORY || picture.len() != PICTURE || places_of(history).is_none() {
+        return LENGTH;
+    }
+    if program.is_empty() || program.len() > PROGRAM_MOST {
+        return PROGRAM_LENGTH;
+    }
+    memory.fill(0);
+    memory[..DIGITS.len()].copy_from_slice(&DIGITS);
+    memory[START..START + program.len()].copy_from_slice(program);
+    picture.fill(0);
+    history.fill(0);
+    0
+}
+
+/// Never inlined, so that it is measured as a call like the card's own.
+#[inline(never)]
+pub fn step(
+    image: &mut [u8],
+    memory: &mut [u8],
+    picture: &mut [u8],
+    history: &mut [u8],
+    keys: u16,
+    random: u8,
+    answer: &mut [u64],
+) -> u32 {
+    let Ok(answer) = <&mut [u64; ANSWER]>::try_from(answer) else {
+        return LENGTH;
+    };
+    *answer = [0; ANSWER];
+    let (Ok(image), Ok(memory), Ok(picture), Some(places)) = (
+        <&mut Image>::try_from(image),
+        <&mut Memory>::try_from(memory),
+        <&mut Picture>::try_from(picture),
+        places_of_mut(history),
+    ) else {
+        return LENGTH;
+    };
+    let Some(mut work) = Work::read(image, places.len()) else {
+        return UNSOUND;
+    };
+    let refusal = work.step(memory, picture, places, keys, random);
+    if refusal == 0 {
+        work.write(image);
+        answer[0] = 1;
+    }
+    refusal
+}
+
+pub fn tick(image: &mut [u8], history: &mut [u8]) -> u32 {
+    let (Ok(image), Some(places)) = (<&mut Image>::try_from(image), places_of_mut(history)) else {
+        return LENGTH;
+    };
+    let Some(mut work) = Work::read(image, places.len()) else {
+        return UNSOUND;
+    };
+    work.tick(places);
+    work.write(image);
+    0
+}
+
+pub fn back(image: &mut [u8], memory: &mut [u8], picture: &mut [u8], history: &[u8]) -> u32 {
+    let (Ok(image), Ok(memory), Ok(picture), Some(places)) = (
+        <&mut Image>::try_from(image),
+        <&mut Memory>::try_from(memory),
+        <&mut Picture>::try_from(picture),
+        places_of(history),
+    ) else {
+        return LENGTH;
+    };
+    let Some(mut work) = Work::read(image, places.len()) else {
+        return UNSOUND;
+    };
+    let refusal = work.back(memory, picture, places);
+    if refusal == 0 {
+        work.write(image);
+    }
+    refusal
+}
+
+#[allow(clippy::too_many_arguments)]
+pub fn run(
+    image: &mut [u8],
+    memory: &mut [u8],
+    picture: &mut [u8],
+    history: &mut [u8],
+    ticks: &[u8],
+    keys: &[u16],
+    randoms: &[u8],
+    answer: &mut [u64],
+) -> u32 {
+    let Ok(answer) = <&mut [u64; ANSWER]>::try_from(answer) else {
+        return LENGTH;
+    };
+    *answer = [0; ANSWER];
+    let (Ok(image), Ok(memory), Ok(picture), Some(places)) = (
+        <&mut Image>::try_from(image),
+        <&mut Memory>::try_from(memory),
+        <&mut Picture>::try_from(picture),
+        places_of_mut(history),
+    ) else {
+        return LENGTH;
+    };
+    if ticks.len() > LIST_MOST || keys.len() != ticks.len() || randoms.len() != ticks.len() {
+        return LENGTH;
+    }
+    let Some(mut work) = Work::read(image, places.len()) else {
+        return UNSOUND;
+    };
+    let mut accepted = 0;
+    let mut refusal = 0;
+    for ((ticks, keys), random) in ticks.iter().zip(keys).zip(randoms) {
+        for _ in 0..*ticks {
+            work.tick(places);
+        }
+        refusal = work.step(memory, picture, places, *keys, *random);
+        if refusal != 0 {
+            break;
+        }
+        accepted += 1;
+    }
+    work.write(image);
+    answer[0] = accepted;
+    refusal
+}
+
+pub fn play(
+    image: &mut [u8],
+    memory: &mut [u8],
+    picture: &mut [u8],
+    history: &mut [u8],
+    moves: &[u8],
+    keys: &[u16],
+    randoms: &[u8],
+) -> u32 {
+    let (Ok(image), Ok(memory), Ok(picture), Some(places)) = (
+        <&mut Image>::try_from(image),
+        <&mut Memory>::try_from(memory),
+        <&mut Picture>::try_from(picture),
+        places_of_mut(history),
+    ) else {
+        return LENGTH;
+    };
+    if moves.len() > LIST_MOST
+        || keys.len() != moves.len()
+        || randoms.len() != moves.len()
+        || moves.iter().any(|&made| made > 2)
+    {
+        return LENGTH;
+    }
+    let Some(mut work) = Work::read(image, places.len()) else {
+        return UNSOUND;
+    };
+    let mut refusal = 0;
+    for ((made, keys), random) in moves.iter().zip(keys).zip(randoms) {
+        refusal = match made {
+            0 => work.step(memory, picture, places, *keys, *random),
+            1 => {
+                work.tick(places);
+                0
+            }
+            _ => work.back(memory, picture, places),
+        };
+    }
+    work.write(image);
+    refusal
+}

@@ -1,0 +1,235 @@
+/*
+ * card.h - the machine inside a game card: CHIP-8 of 1978 with a step back.
+ *
+ * Link with the static library libcard.a. Six functions load a program, make
+ * one step or one clock tick, go one action back, run a list of inputs, and
+ * play a list of moves.
+ *
+ * THE BUFFERS
+ *
+ * The host owns every byte. The library allocates nothing and keeps nothing
+ * between two calls: whoever holds the four buffers holds the machine.
+ *
+ *   image    64 bytes      registers, stack, timers and history numbers
+ *   memory   4,096 bytes   the program and its data
+ *   picture  256 bytes     64 by 32 spots, 8 bytes a row, top row first, the
+ *                          highest bit leftmost, 1 for a lit spot
+ *   history  288 to 65,536 bytes, a place of 288 bytes for each action that can
+ *            be taken back; bytes after the last whole place are not used
+ *
+ * Each buffer is handed over as a pointer and, right after it, its length. The
+ * length counts elements: bytes, 16-bit numbers for keys, 64-bit numbers for an
+ * answer. A wrong length is refused, so a call never reads or writes outside
+ * the lengths that it was told.
+ *
+ * What the host must see to:
+ *   - A pointer is never null, even when the length is 0; any valid address
+ *     will do then. It must be aligned for its type.
+ *   - Two buffers of one call must not overlap.
+ *   - Any contents are allowed. A state that cannot be is refused with
+ *     CARD_UNSOUND; a history that somebody else wrote in may be refused with
+ *     CARD_DAMAGED_RECORD.
+ *
+ * Threads: calls on different buffers may be made at the same time. Buffers
+ * that are lent to a call are not touched by anybody else until it ends.
+ *
+ * THE ANSWER
+ *
+ * Every function returns 0 (CARD_DONE) or a refusal number. A refused call
+ * leaves every buffer as it came, with these three exceptions:
+ *   - card_load leaves the fresh image in a 64-byte image, refused or not;
+ *   - card_step and card_run write all four numbers of the answer, refused or
+ *     not, unless the answer itself has a wrong length;
+ *   - card_run and card_play keep the actions that were accepted before.
+ *
+ * AN EXAMPLE
+ *
+ *   uint8_t image[CARD_IMAGE], memory[CARD_MEMORY], picture[CARD_PICTURE];
+ *   uint8_t history[100 * CARD_PLACE];
+ *   uint64_t answer[CARD_ANSWER];
+ *   const uint8_t program[] = {0x60, 0x05, 0x70, 0x03};   (V0 = 5, V0 += 3)
+ *
+ *   card_load(program, sizeof program, image, sizeof image, memory,
+ *             sizeof memory, picture, sizeof picture, history, sizeof history);
+ *   card_step(image, sizeof image, memory, sizeof memory, picture,
+ *             sizeof picture, history, sizeof history, 0, 0, answer,
+ *             CARD_ANSWER);
+ *   (image[CARD_AT_V] is 5 now, and answer[CARD_ACCEPTED] is 1)
+ *   card_back(image, sizeof image, memory, sizeof memory, picture,
+ *             sizeof picture, history, sizeof history);
+ *   (image[CARD_AT_V] is 0 again, and PC is 0200)
+ */
+#ifndef CARD_H
+#define CARD_H
+
+#include <stddef.h>
+#include <stdint.h>
+
+#ifdef __cplusplus
+extern "C" {
+#endif
+
+/* ---- Sizes, in elements ------------------------------------------------- */
+
+#define CARD_IMAGE 64
+#define CARD_MEMORY 4096
+#define CARD_PICTURE 256
+#define CARD_COLUMNS 64
+#define CARD_ROWS 32
+#define CARD_BYTES_A_ROW 8
+#define CARD_PLACE 288
+#define CARD_HISTORY_LEAST 288
+#define CARD_HISTORY_MOST 65536
+#define CARD_PLACES_MOST 227
+#define CARD_START 0x0200
+#define CARD_PROGRAM_LEAST 1
+#define CARD_PROGRAM_MOST 3584
+#define CARD_STACK 12
+#define CARD_RUN_MOST 4096
+#define CARD_PLAY_MOST 4096
+#define CARD_ANSWER 4
+
+/* How many actions a history of this length can take back. */
+#define CARD_PLACES(history_length) ((history_length) / CARD_PLACE)
+
+/* ---- Refusal numbers ---------------------------------------------------- */
+
+enum card_refusal {
+    CARD_DONE = 0,             /* not refused */
+    CARD_PROGRAM_COUNTER = 1,  /* PC above 4,094 */
+    CARD_NOT_LISTED = 2,       /* an instruction that there is not */
+    CARD_MACHINE_LANGUAGE = 3, /* 0MMM other than 00E0 and 00EE */
+    CARD_STACK_FULL = 4,       /* a call at depth 12 */
+    CARD_STACK_EMPTY = 5,      /* a return at depth 0 */
+    CARD_PAST_MEMORY = 6,      /* I and the bytes needed pass 4,096 */
+    CARD_NOTHING_KEPT = 7,     /* a back with kept 0 */
+    CARD_PROGRAM_LENGTH = 8,   /* a program of 0 or over 3,584 bytes */
+    CARD_LENGTH = 9,           /* a buffer or a list has a wrong length */
+    CARD_UNSOUND = 10,         /* a state that cannot be, next or kept too */
+    CARD_DAMAGED_RECORD = 11   /* a back onto a damaged record */
+};
+
+/*
+ * If more than one applies, the number that is given is the first of
+ *   load  9, 8
+ *   step  9, 10, 1, then 2 or 3, then 4, 5 or 6
+ *   tick  9, 10
+ *   back  9, 10, 7, 11
+ *   run   9, 10, then that of the step that ended it
+ *   play  9, 10, then that of the last move
+ */
+
+/* ---- The image ---------------------------------------------------------- */
+
+/* Where each part stands. Numbers of two bytes have the high byte first. */
+#define CARD_AT_V 0      /* V0 to VF, a byte each */
+#define CARD_AT_I 16     /* two bytes */
+#define CARD_AT_PC 18    /* two bytes */
+#define CARD_AT_DEPTH 20 /* return addresses on the stack, 0 to 12 */
+#define CARD_AT_DELAY 21 /* the delay timer */
+#define CARD_AT_TONE 22  /* the tone timer; a tone sounds while it is not 0 */
+#define CARD_AT_HELD 23  /* the key that FX0A holds, 0 to 15, or FF for none */
+#define CARD_AT_STACK 24 /* twelve entries of two bytes, 0 from depth on */
+#define CARD_AT_NEXT 48  /* two bytes: the place of the next record */
+#define CARD_AT_KEPT 50  /* two bytes: how many actions can be taken back */
+#define CARD_AT_LATER 52 /* twelve bytes for later use, all 0 */
+
+#define CARD_NO_KEY 0xFF
+
+/* ---- The answer of a step and of a run ---------------------------------- */
+
+/* The number of accepted steps. The other three numbers are 0. */
+#define CARD_ACCEPTED 0
+
+/* ---- The calls ---------------------------------------------------------- */
+
+/*
+ * Loads a program of 1 to 3,584 bytes to 0200. The digits stand from 0000 to
+ * 004F; all other memory, the picture and the whole history become 0. Nothing
+ * is read from the four buffers, so they may hold anything before.
+ *
+ * The image becomes the fresh one (PC 0200, held key FF, all else 0) even when
+ * the load is refused, provided it has 64 bytes. A refused load leaves memory,
+ * picture and history.
+ */
+uint32_t card_load(const uint8_t *program, size_t program_length,
+                   uint8_t *image, size_t image_length,
+                   uint8_t *memory, size_t memory_length,
+                   uint8_t *picture, size_t picture_length,
+                   uint8_t *history, size_t history_length);
+
+/*
+ * Executes one instruction: the whole of it, or nothing. Bit k of `keys` is
+ * set while key k is down; `random` is the byte that CXKK uses. FX0A takes
+ * several steps: one until a key is down, one until that key is up again.
+ *
+ * answer[CARD_ACCEPTED] is 1 if the step was accepted, otherwise 0.
+ */
+uint32_t card_step(uint8_t *image, size_t image_length,
+                   uint8_t *memory, size_t memory_length,
+                   uint8_t *picture, size_t picture_length,
+                   uint8_t *history, size_t history_length,
+                   uint16_t keys, uint8_t random,
+                   uint64_t *answer, size_t answer_length);
+
+/*
+ * One tick of the clock: lowers each timer that is not 0 by one. A tick is an
+ * action with a record of its own, so a back takes it back.
+ */
+uint32_t card_tick(uint8_t *image, size_t image_length,
+                   uint8_t *history, size_t history_length);
+
+/*
+ * Takes back the last step or tick that was accepted, with every part of the
+ * state and every byte of memory and picture. The history is only read. When
+ * kept is 0, nothing is left to take back and the call is refused with
+ * CARD_NOTHING_KEPT.
+ */
+uint32_t card_back(uint8_t *image, size_t image_length,
+                   uint8_t *memory, size_t memory_length,
+                   uint8_t *picture, size_t picture_length,
+                   const uint8_t *history, size_t history_length);
+
+/*
+ * For each entry makes ticks[i] ticks and then a step with keys[i] and
+ * randoms[i]. The three lists are equally long, 0 to 4,096 entries. The first
+ * refused step ends the run, and its number is returned; all actions before
+ * it stand, the ticks of its own entry included.
+ *
+ * answer[CARD_ACCEPTED] is the number of accepted steps.
+ */
+uint32_t card_run(uint8_t *image, size_t image_length,
+                  uint8_t *memory, size_t memory_length,
+                  uint8_t *picture, size_t picture_length,
+                  uint8_t *history, size_t history_length,
+                  const uint8_t *ticks, size_t ticks_length,
+                  const uint16_t *keys, size_t keys_length,
+                  const uint8_t *randoms, size_t randoms_length,
+                  uint64_t *answer, size_t answer_length);
+
+/* The moves of a play. */
+enum card_move { CARD_MOVE_STEP = 0, CARD_MOVE_TICK = 1, CARD_MOVE_BACK = 2 };
+
+/*
+ * Makes a list of moves, each on what the last one gave; a step uses keys[i]
+ * and randoms[i]. A refused move changes nothing and the play goes on. The
+ * last move's number is returned, 0 for an empty list. The three lists are
+ * equally long, 0 to 4,096 entries.
+ *
+ * Lists of unequal or greater length, or a move other than these three
+ * anywhere, are CARD_LENGTH. That and CARD_UNSOUND refuse the play as a whole:
+ * nothing is changed.
+ */
+uint32_t card_play(uint8_t *image, size_t image_length,
+                   uint8_t *memory, size_t memory_length,
+                   uint8_t *picture, size_t picture_length,
+                   uint8_t *history, size_t history_length,
+                   const uint8_t *moves, size_t moves_length,
+                   const uint16_t *keys, size_t keys_length,
+                   const uint8_t *randoms, size_t randoms_length);
+
+#ifdef __cplusplus
+}
+#endif
+
+#endif /* CARD_H */
