@@ -118,7 +118,12 @@ fn is_refused(card: Answer) -> bool {
     text::number(outcome) != 0
 }
 
-// Action number i of a walk: a tick at every fifth, and else a step, with the keys down at every second and a random byte of its own.
+// The keys are down at every second action of a walk.
+fn keys_at(i: usize, keys: u16) -> u16 {
+    if i % 2 == 0 { keys } else { 0 }
+}
+
+// Action number i of a walk: a tick at every fifth, and else a step, with a random byte of its own.
 fn action(
     card: Answer,
     memory: &mut [u8],
@@ -130,11 +135,14 @@ fn action(
     if i % 5 == 4 {
         return tick(card, history);
     }
-    let random = (i % 256 * 7 % 256) as u8;
-    if i % 2 == 0 {
-        return step(card, memory, picture, history, keys, random);
-    }
-    step(card, memory, picture, history, 0, random)
+    step(
+        card,
+        memory,
+        picture,
+        history,
+        keys_at(i, keys),
+        (i % 256 * 7 % 256) as u8,
+    )
 }
 
 // Many actions, up to the first that is refused.
