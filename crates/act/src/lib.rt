@@ -79,7 +79,8 @@ fn pattern(m: Machine, n: u8, memory: &[u8]) -> &[u8]
 fn draw(m: Machine, x: u8, y: u8, pattern: &[u8], picture: &mut [u8]) -> Machine
     requires { ⌜ (m .pc ≤ 4094) × (length (now picture) ≡ pictureSize) ⌝ }
     ensures { λ r. ⌜ now (picture .exit) ≡ drawn (now (pattern .entry)) (column m x) (row m y) (now (picture .entry)) ⌝ }
-    ensures { λ r. ⌜ r ≡ withWait Idle (onward (withReg 0xF (pick (ltb 0 (darkened (now (pattern .entry)) (column m x) (row m y) (now (picture .entry)))) 1 0) m)) ⌝ }
+    ensures { λ r. ⌜ r ≡ withWait Idle
+        (onward (withReg 0xF (pick (ltb 0 (darkened (now (pattern .entry)) (column m x) (row m y) (now (picture .entry)))) 1 0) m)) ⌝ }
 {
     let column = (registers::get(m, x) % 64) as usize;
     let row = row_of(m, y) as usize;
@@ -112,7 +113,8 @@ fn store(m: Machine, x: u8, memory: &mut [u8]) -> Machine
 // FX65
 fn fetch(m: Machine, x: u8, memory: &[u8]) -> Machine
     requires { ⌜ Within (upTo x) m (now memory) ⌝ }
-    ensures { λ r. ⌜ r ≡ withWait Idle (onward (withI (m .i + upTo x) (withV (part (now (memory .entry)) (m .i) (upTo x) ++ drop (upTo x) (m .v)) m))) ⌝ }
+    ensures { λ r. ⌜ r ≡ withWait Idle
+        (onward (withI (m .i + upTo x) (withV (part (now (memory .entry)) (m .i) (upTo x) ++ drop (upTo x) (m .v)) m))) ⌝ }
 {
     let count = registers::up_to(x);
     let at = m.i as usize;
@@ -133,7 +135,8 @@ pub fn act(
     random: u8,
 ) -> Machine
     requires { ⌜ Accepted op m (now memory) (now picture) ⌝ }
-    ensures { λ r. ⌜ Became (after op keys random m (now (memory .entry)) (now (picture .entry))) r (now (memory .exit)) (now (picture .exit)) ⌝ }
+    ensures { λ r. ⌜ Became (after op keys random m (now (memory .entry)) (now (picture .entry))) r (now (memory .exit))
+        (now (picture .exit)) ⌝ }
 {
     match op {
         Op::Plain(s) => registers::idle(registers::simple(s, m, keys, random)),

@@ -1,9 +1,8 @@
 -- A load: what it gives where it is refused, what its parts ask, and what they leave in memory.
 use mathlib.Core.Path.{_≡_, refl, sym, ap, ap₂, _∙_}
-use mathlib.Core.Bool.{true, _&&_, and-eq-true-iff}
+use mathlib.Core.Bool.{_&&_, and-eq-true-iff}
 use mathlib.Core.List.{List, _++_, append-assoc}
 use Prim.Native.Nat.{ℕ, _+_, _-_, _≤_}
-use native.Mathlib.Omega.{arith}
 use lib.ListN.{length, take, drop, replicate, length-append, length-replicate, replicate-append-replicate}
 use lib.Seq.{take-at, drop-append-add}
 use lib.Dec.{leb}
@@ -19,7 +18,7 @@ use Rattle.rules.specs.Promise.{Gives}
 use Rattle.rules.proofs.Choices.{passed}
 use Rattle.rules.proofs.Parts.{zeroes, drop-zeros}
 use Rattle.rules.proofs.Ready.{Passed, fits-passed}
-use Rattle.rules.proofs.Given.{Back, given-refused, answered-done}
+use Rattle.rules.proofs.Given.{given-refused, answered-done}
 
 -- ---- memory: the digits, zeros to the end, and the program laid over them
 

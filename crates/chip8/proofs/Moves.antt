@@ -1,25 +1,22 @@
 -- A play, move by move: what is still to be done from here gives the same answer; and from a sound start it is the plain list's.
-use mathlib.Core.Path.{_≡_, refl, sym, ap, _∙_}
-use mathlib.Core.Bool.{true, false, _&&_}
+use mathlib.Core.Path.{_≡_, refl, _∙_}
+use mathlib.Core.Bool.{true, false}
 use mathlib.Core.List.{List}
 use Prim.Native.Nat.{ℕ, _+_, _≤_, _<_}
 use native.Mathlib.Omega.{arith}
 use lib.ListN.{length, drop, getD, drop-of-length-le}
-use lib.Dec.{leb}
 use borrow.Author.Tests.{eq-eqb, ne-eqb, le-leb, lt-leb, lt-ltb}
 use Rattle.rules.specs.declared.Machine.{Machine}
 use Rattle.rules.specs.declared.Trail.{Trail}
 use Rattle.rules.specs.declared.Refusal.{Refusal}
 use Rattle.rules.specs.declared.Outcome.{Outcome}
 use Rattle.rules.specs.declared.Outcome.the-variants.{Refused}
-use Rattle.rules.specs.Number.{pick}
 use Rattle.rules.specs.Refusal.{number}
 use Rattle.rules.specs.World.{World, Answer, world, boardOf, places}
 use Rattle.rules.specs.Run.{unrefused, listsFit, allMoves, movesFit, moveOf, movesOf, made, playFrom, play, playRefusal}
 use Rattle.rules.specs.Typed.{TypedBoard}
 use Rattle.rules.specs.Past.{Start, Told, follow, first}
 use Rattle.rules.specs.Promise.{Gives}
-use Rattle.rules.proofs.Choices.{and-both}
 use Rattle.rules.proofs.Given.{Back, tests, handed, refused-some}
 use Rattle.rules.proofs.StepsBack.{steps-back}
 use Rattle.chip8.proofs.Ticks.{gives-world}

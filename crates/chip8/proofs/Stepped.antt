@@ -1,9 +1,8 @@
 -- A step of a world that passed the tests 9 and 10: what it gives where it is refused, what its parts ask, and what they make together.
 use mathlib.Core.Path.{_≡_, refl, sym, ap, _∙_}
 use mathlib.Core.List.{List}
-use Prim.Native.Nat.{ℕ, _+_, _≤_, _<_}
+use Prim.Native.Nat.{ℕ, _≤_, _<_}
 use native.Mathlib.Omega.{arith}
-use lib.ListN.{length}
 use lib.Dec.{leb}
 use borrow.Author.Tests.{le-leb, lt-leb}
 use Rattle.rules.specs.declared.Machine.{Machine}
@@ -15,14 +14,14 @@ use Rattle.rules.specs.declared.Outcome.the-variants.{Done, Refused}
 use Rattle.rules.specs.Number.{unless}
 use Rattle.rules.specs.Refusal.{number}
 use Rattle.rules.specs.Step.{refusalOf, changeOf, after}
-use Rattle.rules.specs.World.{World, boardOf, places, buffersFit, soundly}
+use Rattle.rules.specs.World.{World, boardOf, places}
 use Rattle.rules.specs.Call.{opAt, step, stepped, stepRefusal, written, grown}
 use Rattle.rules.specs.Promise.{Gives}
 use Rattle.rules.proofs.Ready.{Ready, ready-fits, ready-soundly, stepped-follows}
 use Rattle.rules.proofs.Given.{Back, given-refused, answered-done}
 use Rattle.act.specs.Accepted.{Accepted}
 use Rattle.act.specs.Became.{Became}
-use Rattle.chip8.specs.Inner.{InRange, Tickable, Keepable}
+use Rattle.chip8.specs.Inner.{Tickable, Keepable}
 
 module _ (w : World) (h : Ready w) where
   abbrev m : Machine

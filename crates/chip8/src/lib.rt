@@ -40,7 +40,9 @@ pub struct Ran {
 
 // Loads a program: digits, program and zeros to memory, zeros to the picture and the history.
 pub fn load(program: &[u8], memory: &mut [u8], picture: &mut [u8], history: &mut [u8]) -> Answer
-    ensures { λ r. ⌜ Gives (rules_load.load (now (program .entry)) (now (memory .entry)) (now (picture .entry)) (now (history .entry))) (r .outcome) (r .machine) (r .trail) (now (memory .exit)) (now (picture .exit)) (now (history .exit)) ⌝ }
+    ensures { λ r. ⌜ Gives
+        (rules_load.load (now (program .entry)) (now (memory .entry)) (now (picture .entry)) (now (history .entry))) (r .outcome)
+        (r .machine) (r .trail) (now (memory .exit)) (now (picture .exit)) (now (history .exit)) ⌝ }
 {
     let machine = Machine::fresh();
     let trail = Trail { next: 0, kept: 0 };
@@ -72,7 +74,9 @@ pub fn step(
     keys: u16,
     random: u8,
 ) -> Answer
-    ensures { λ r. ⌜ Gives (rules_call.step keys random (world machine trail (now (memory .entry)) (now (picture .entry)) (now (history .entry)))) (r .outcome) (r .machine) (r .trail) (now (memory .exit)) (now (picture .exit)) (now (history .exit)) ⌝ }
+    ensures { λ r. ⌜ Gives
+        (rules_call.step keys random (world machine trail (now (memory .entry)) (now (picture .entry)) (now (history .entry))))
+        (r .outcome) (r .machine) (r .trail) (now (memory .exit)) (now (picture .exit)) (now (history .exit)) ⌝ }
 {
     let outcome = judge::admitted(machine, trail, memory, picture, history, true);
     let Outcome::Done = outcome else {
@@ -87,7 +91,9 @@ pub fn step(
 
 // Takes one clock tick. It is lent only the history: the promise holds beside any memory and picture.
 pub fn tick(machine: Machine, trail: Trail, history: &mut [u8]) -> Answer
-    ensures { λ r. ⌜ ((memory picture : List ℕ) → Gives (rules_call.tick (world machine trail memory picture (now (history .entry)))) (r .outcome) (r .machine) (r .trail) memory picture (now (history .exit))) ⌝ }
+    ensures { λ r. ⌜
+        ((memory picture : List ℕ) → Gives (rules_call.tick (world machine trail memory picture (now (history .entry))))
+        (r .outcome) (r .machine) (r .trail) memory picture (now (history .exit))) ⌝ }
 {
     let fits = judge::history_fits(history);
     let outcome = judge::tested(fits, judge::soundly(machine, trail, history));
@@ -109,7 +115,9 @@ pub fn back(
     picture: &mut [u8],
     history: &[u8],
 ) -> Answer
-    ensures { λ r. ⌜ Gives (rules_call.back (world machine trail (now (memory .entry)) (now (picture .entry)) (now (history .entry)))) (r .outcome) (r .machine) (r .trail) (now (memory .exit)) (now (picture .exit)) (now (history .entry)) ⌝ }
+    ensures { λ r. ⌜ Gives
+        (rules_call.back (world machine trail (now (memory .entry)) (now (picture .entry)) (now (history .entry)))) (r .outcome)
+        (r .machine) (r .trail) (now (memory .exit)) (now (picture .exit)) (now (history .entry)) ⌝ }
 {
     let outcome = judge::admitted(machine, trail, memory, picture, history, true);
     let Outcome::Done = outcome else {
@@ -133,7 +141,10 @@ pub fn run(
     keys: &[u16],
     randoms: &[u8],
 ) -> Ran
-    ensures { λ r. ⌜ GivesRun (rules_run.run (now (ticks .entry)) (now (keys .entry)) (now (randoms .entry)) (world machine trail (now (memory .entry)) (now (picture .entry)) (now (history .entry)))) (r .accepted) (r .outcome) (r .machine) (r .trail) (now (memory .exit)) (now (picture .exit)) (now (history .exit)) ⌝ }
+    ensures { λ r. ⌜ GivesRun
+        (rules_run.run (now (ticks .entry)) (now (keys .entry)) (now (randoms .entry))
+        (world machine trail (now (memory .entry)) (now (picture .entry)) (now (history .entry)))) (r .accepted) (r .outcome)
+        (r .machine) (r .trail) (now (memory .exit)) (now (picture .exit)) (now (history .exit)) ⌝ }
 {
     let lists = running::lists_fit(ticks.len(), keys.len(), randoms.len());
     let outcome = judge::admitted(machine, trail, memory, picture, history, lists);
@@ -169,8 +180,17 @@ pub fn play(
     keys: &[u16],
     randoms: &[u8],
 ) -> Answer
-    ensures { λ r. ⌜ Gives (rules_run.play (now (moves .entry)) (now (keys .entry)) (now (randoms .entry)) (world machine trail (now (memory .entry)) (now (picture .entry)) (now (history .entry)))) (r .outcome) (r .machine) (r .trail) (now (memory .exit)) (now (picture .exit)) (now (history .exit)) ⌝ }
-    ensures { λ r. ⌜ (Start (world machine trail (now (memory .entry)) (now (picture .entry)) (now (history .entry))) → listsFit (now (moves .entry)) (now (keys .entry)) (now (randoms .entry)) ≡ true → allMoves (now (moves .entry)) ≡ true → Told (world (r .machine) (r .trail) (now (memory .exit)) (now (picture .exit)) (now (history .exit))) (follow (places (now (history .entry))) (movesOf (now (moves .entry)) (now (keys .entry)) (now (randoms .entry))) (world machine trail (now (memory .entry)) (now (picture .entry)) (now (history .entry))) (first (world machine trail (now (memory .entry)) (now (picture .entry)) (now (history .entry)))))) ⌝ }
+    ensures { λ r. ⌜ Gives
+        (rules_run.play (now (moves .entry)) (now (keys .entry)) (now (randoms .entry))
+        (world machine trail (now (memory .entry)) (now (picture .entry)) (now (history .entry)))) (r .outcome) (r .machine)
+        (r .trail) (now (memory .exit)) (now (picture .exit)) (now (history .exit)) ⌝ }
+    ensures { λ r. ⌜
+        (Start (world machine trail (now (memory .entry)) (now (picture .entry)) (now (history .entry))) → listsFit
+        (now (moves .entry)) (now (keys .entry)) (now (randoms .entry)) ≡ true → allMoves (now (moves .entry)) ≡ true → Told
+        (world (r .machine) (r .trail) (now (memory .exit)) (now (picture .exit)) (now (history .exit)))
+        (follow (places (now (history .entry))) (movesOf (now (moves .entry)) (now (keys .entry)) (now (randoms .entry)))
+        (world machine trail (now (memory .entry)) (now (picture .entry)) (now (history .entry)))
+        (first (world machine trail (now (memory .entry)) (now (picture .entry)) (now (history .entry)))))) ⌝ }
 {
     let lists = running::lists_fit(moves.len(), keys.len(), randoms.len())
         & playing::all_moves(moves);

@@ -94,7 +94,7 @@ const DIGITS: [u8; 80] = [
 ];
 
 // 9, then 8.
-pub fn judged(program: &[u8], memory: &[u8], picture: &[u8], history: &[u8]) -> Outcome
+pub(crate) fn judged(program: &[u8], memory: &[u8], picture: &[u8], history: &[u8]) -> Outcome
     ensures { λ r. ⌜ number r ≡ loadRefusal (now (program .entry)) (now (memory .entry)) (now (picture .entry)) (now (history .entry)) ⌝ }
 {
     if !judge::sizes_fit(memory, picture, history) {
@@ -116,7 +116,7 @@ fn lay_digits(memory: &mut [u8])
 }
 
 // The digits, the program at its address, and zeros everywhere else.
-pub fn lay_out(program: &[u8], memory: &mut [u8])
+pub(crate) fn lay_out(program: &[u8], memory: &mut [u8])
     requires { ⌜ (length (now memory) ≡ 4096) × (length (now program) ≤ 3584) ⌝ }
     ensures { λ _. ⌜ now (memory .exit) ≡ loadedMemory (now (program .entry)) ⌝ }
 {

@@ -1,10 +1,9 @@
 // A step and a tick of a world that passed the tests 9 and 10.
-ghost use mathlib.Core.Path.{_≡_};
 ghost use mathlib.Core.List.{List};
 ghost use Prim.Native.Nat.{ℕ};
 ghost use Rattle.rules.specs.World.{world};
 ghost use Rattle.rules.specs.Call as rules_call;
-ghost use Rattle.rules.specs.Run.{tickedBy, unrefused};
+ghost use Rattle.rules.specs.Run.{unrefused};
 ghost use Rattle.rules.specs.Promise.{Gives};
 ghost use Rattle.rules.proofs.Ready.{Ready};
 ghost use Rattle.chip8.specs.Inner.{Tickable};
@@ -17,7 +16,7 @@ use rules::Refusal;
 use rules::Trail;
 
 // Judges the step, keeps its record, and acts.
-pub fn step(
+pub(crate) fn step(
     machine: Machine,
     trail: Trail,
     memory: &mut [u8],
@@ -27,7 +26,9 @@ pub fn step(
     random: u8,
 ) -> Answer
     requires { ⌜ Ready (world machine trail (now memory) (now picture) (now history)) ⌝ }
-    ensures { λ r. ⌜ Gives (rules_call.step keys random (world machine trail (now (memory .entry)) (now (picture .entry)) (now (history .entry)))) (r .outcome) (r .machine) (r .trail) (now (memory .exit)) (now (picture .exit)) (now (history .exit)) ⌝ }
+    ensures { λ r. ⌜ Gives
+        (rules_call.step keys random (world machine trail (now (memory .entry)) (now (picture .entry)) (now (history .entry))))
+        (r .outcome) (r .machine) (r .trail) (now (memory .exit)) (now (picture .exit)) (now (history .exit)) ⌝ }
 {
     let at = machine.pc as usize;
     if Machine::MEMORY - 2 < at {
@@ -64,9 +65,12 @@ pub fn step(
 }
 
 // Keeps the record of a tick, and lowers the timers.
-pub fn tick(machine: Machine, trail: Trail, history: &mut [u8]) -> Answer
+pub(crate) fn tick(machine: Machine, trail: Trail, history: &mut [u8]) -> Answer
     requires { ⌜ Tickable machine trail (now history) ⌝ }
-    ensures { λ r. ⌜ ((memory picture : List ℕ) → Gives (unrefused (rules_call.ticked (world machine trail memory picture (now (history .entry))))) (r .outcome) (r .machine) (r .trail) memory picture (now (history .exit))) ⌝ }
+    ensures { λ r. ⌜
+        ((memory picture : List ℕ) → Gives
+        (unrefused (rules_call.ticked (world machine trail memory picture (now (history .entry))))) (r .outcome) (r .machine)
+        (r .trail) memory picture (now (history .exit))) ⌝ }
 {
     let places = judge::places(history);
     let next = trail.next;

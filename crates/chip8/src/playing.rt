@@ -10,7 +10,7 @@ use rules::Outcome;
 use rules::Trail;
 
 // Whether each byte is a move.
-pub fn all_moves(moves: &[u8]) -> bool
+pub(crate) fn all_moves(moves: &[u8]) -> bool
     ensures { λ r. ⌜ r ≡ allMoves (now (moves .entry)) ⌝ }
 {
     let mut i = 0;
@@ -34,7 +34,9 @@ fn make(
     keys: u16,
     random: u8,
 ) -> Answer
-    ensures { λ r. ⌜ Gives (made (moveOf step keys random) (world machine trail (now (memory .entry)) (now (picture .entry)) (now (history .entry)))) (r .outcome) (r .machine) (r .trail) (now (memory .exit)) (now (picture .exit)) (now (history .exit)) ⌝ }
+    ensures { λ r. ⌜ Gives
+        (made (moveOf step keys random) (world machine trail (now (memory .entry)) (now (picture .entry)) (now (history .entry))))
+        (r .outcome) (r .machine) (r .trail) (now (memory .exit)) (now (picture .exit)) (now (history .exit)) ⌝ }
 {
     match step {
         0 => crate::step(machine, trail, memory, picture, history, keys, random),
@@ -43,7 +45,7 @@ fn make(
     }
 }
 
-pub fn play(
+pub(crate) fn play(
     machine: Machine,
     trail: Trail,
     memory: &mut [u8],
@@ -54,7 +56,10 @@ pub fn play(
     randoms: &[u8],
 ) -> Answer
     requires { ⌜ listsFit (now moves) (now keys) (now randoms) ≡ true ⌝ }
-    ensures { λ r. ⌜ Gives (playFrom (movesOf (now (moves .entry)) (now (keys .entry)) (now (randoms .entry))) (unrefused (world machine trail (now (memory .entry)) (now (picture .entry)) (now (history .entry))))) (r .outcome) (r .machine) (r .trail) (now (memory .exit)) (now (picture .exit)) (now (history .exit)) ⌝ }
+    ensures { λ r. ⌜ Gives
+        (playFrom (movesOf (now (moves .entry)) (now (keys .entry)) (now (randoms .entry)))
+        (unrefused (world machine trail (now (memory .entry)) (now (picture .entry)) (now (history .entry))))) (r .outcome)
+        (r .machine) (r .trail) (now (memory .exit)) (now (picture .exit)) (now (history .exit)) ⌝ }
 {
     let mut last = Answer {
         outcome: Outcome::Done,

@@ -12,9 +12,17 @@ use rules::Machine;
 use rules::Trail;
 
 // Writes the record of a change that is about to be made into the place at next.
-pub fn keep(change: Change, m: Machine, t: Trail, memory: &[u8], picture: &[u8], history: &mut [u8])
+pub(crate) fn keep(
+    change: Change,
+    m: Machine,
+    t: Trail,
+    memory: &[u8],
+    picture: &[u8],
+    history: &mut [u8],
+)
     requires { ⌜ Keepable change m t (now memory) (now picture) (now history) ⌝ }
-    ensures { λ _. ⌜ now (history .exit) ≡ written change (world m t (now (memory .entry)) (now (picture .entry)) (now (history .entry))) ⌝ }
+    ensures { λ _. ⌜ now (history .exit) ≡ written change
+        (world m t (now (memory .entry)) (now (picture .entry)) (now (history .entry))) ⌝ }
 {
     let next = t.next;
     match change {
@@ -48,7 +56,7 @@ fn one_more(kept: usize, places: usize) -> usize
     if kept == places { places } else { kept + 1 }
 }
 
-pub fn grown(t: Trail, places: usize) -> Trail
+pub(crate) fn grown(t: Trail, places: usize) -> Trail
     requires { ⌜ InRange t places ⌝ }
     ensures { λ r. ⌜ r ≡ rule.grown places t ⌝ }
 {
@@ -59,7 +67,7 @@ pub fn grown(t: Trail, places: usize) -> Trail
 }
 
 // Next falls by one, 0 becoming R - 1.
-pub fn place_before(next: usize, places: usize) -> usize
+pub(crate) fn place_before(next: usize, places: usize) -> usize
     requires { ⌜ next < places ⌝ }
     ensures { λ r. ⌜ (r ≡ rule.placeBefore places next) × (r < places) ⌝ }
 {

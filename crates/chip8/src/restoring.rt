@@ -1,6 +1,5 @@
 // A step back in a world that passed the tests 9 and 10.
 ghost use mathlib.Core.Path.{_≡_};
-ghost use Prim.Native.Nat.{_≤_};
 ghost use lib.ListN.{length};
 ghost use Rattle.rules.specs.World.{world, places};
 ghost use Rattle.rules.specs.Record.{placeSize, memoryAt, pictureAt};
@@ -35,7 +34,7 @@ fn put_back(change: Change, place: &[u8], memory: &mut [u8], picture: &mut [u8])
     }
 }
 
-pub fn back(
+pub(crate) fn back(
     machine: Machine,
     trail: Trail,
     memory: &mut [u8],
@@ -43,7 +42,9 @@ pub fn back(
     history: &[u8],
 ) -> Answer
     requires { ⌜ Ready (world machine trail (now memory) (now picture) (now history)) ⌝ }
-    ensures { λ r. ⌜ Gives (rules_call.back (world machine trail (now (memory .entry)) (now (picture .entry)) (now (history .entry)))) (r .outcome) (r .machine) (r .trail) (now (memory .exit)) (now (picture .exit)) (now (history .entry)) ⌝ }
+    ensures { λ r. ⌜ Gives
+        (rules_call.back (world machine trail (now (memory .entry)) (now (picture .entry)) (now (history .entry)))) (r .outcome)
+        (r .machine) (r .trail) (now (memory .exit)) (now (picture .exit)) (now (history .entry)) ⌝ }
 {
     if trail.kept == 0 {
         return Answer {

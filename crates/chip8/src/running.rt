@@ -18,7 +18,7 @@ use rules::Outcome;
 use rules::Trail;
 
 // Three lengths that are equal, at most 4,096.
-pub fn lists_fit(a: usize, b: usize, c: usize) -> bool
+pub(crate) fn lists_fit(a: usize, b: usize, c: usize) -> bool
     ensures { λ r. ⌜ r ≡ (eqb a b && eqb b c && leb a 4096) ⌝ }
 {
     (a == b) & (b == c) & (a <= 4096)
@@ -27,7 +27,9 @@ pub fn lists_fit(a: usize, b: usize, c: usize) -> bool
 // So many ticks.
 fn ticks_of(machine: Machine, trail: Trail, history: &mut [u8], count: u8) -> Answer
     requires { ⌜ Tickable machine trail (now history) ⌝ }
-    ensures { λ r. ⌜ ((memory picture : List ℕ) → Gives (unrefused (tickedBy count (world machine trail memory picture (now (history .entry))))) (r .outcome) (r .machine) (r .trail) memory picture (now (history .exit))) ⌝ }
+    ensures { λ r. ⌜
+        ((memory picture : List ℕ) → Gives (unrefused (tickedBy count (world machine trail memory picture (now (history .entry)))))
+        (r .outcome) (r .machine) (r .trail) memory picture (now (history .exit))) ⌝ }
 {
     let mut m = machine;
     let mut t = trail;
@@ -59,7 +61,10 @@ fn entry(
     random: u8,
 ) -> Answer
     requires { ⌜ Ready (world machine trail (now memory) (now picture) (now history)) ⌝ }
-    ensures { λ r. ⌜ Gives (rules_call.step keys random (tickedBy ticks (world machine trail (now (memory .entry)) (now (picture .entry)) (now (history .entry))))) (r .outcome) (r .machine) (r .trail) (now (memory .exit)) (now (picture .exit)) (now (history .exit)) ⌝ }
+    ensures { λ r. ⌜ Gives
+        (rules_call.step keys random
+        (tickedBy ticks (world machine trail (now (memory .entry)) (now (picture .entry)) (now (history .entry))))) (r .outcome)
+        (r .machine) (r .trail) (now (memory .exit)) (now (picture .exit)) (now (history .exit)) ⌝ }
 {
     let ticked = ticks_of(machine, trail, history, ticks);
     let m = ticked.machine;
@@ -67,7 +72,7 @@ fn entry(
     moving::step(m, t, memory, picture, history, keys, random)
 }
 
-pub fn run(
+pub(crate) fn run(
     machine: Machine,
     trail: Trail,
     memory: &mut [u8],
@@ -79,7 +84,10 @@ pub fn run(
 ) -> Ran
     requires { ⌜ Ready (world machine trail (now memory) (now picture) (now history)) ⌝ }
     requires { ⌜ listsFit (now ticks) (now keys) (now randoms) ≡ true ⌝ }
-    ensures { λ r. ⌜ GivesRun (runFrom 0 (now (ticks .entry)) (now (keys .entry)) (now (randoms .entry)) (world machine trail (now (memory .entry)) (now (picture .entry)) (now (history .entry)))) (r .accepted) (r .outcome) (r .machine) (r .trail) (now (memory .exit)) (now (picture .exit)) (now (history .exit)) ⌝ }
+    ensures { λ r. ⌜ GivesRun
+        (runFrom 0 (now (ticks .entry)) (now (keys .entry)) (now (randoms .entry))
+        (world machine trail (now (memory .entry)) (now (picture .entry)) (now (history .entry)))) (r .accepted) (r .outcome)
+        (r .machine) (r .trail) (now (memory .exit)) (now (picture .exit)) (now (history .exit)) ⌝ }
 {
     let mut m = machine;
     let mut t = trail;

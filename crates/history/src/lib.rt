@@ -267,7 +267,7 @@ fn registers_at(place: &[u8]) -> [u8; 16]
 }
 
 // The stack with zeros from `depth` on.
-fn cut(stack: [u16; 12], depth: usize) -> [u16; 12]
+fn cut(stack: [u16; Machine::STACK], depth: usize) -> [u16; Machine::STACK]
     requires { ⌜ depth ≤ stackSize ⌝ }
     ensures { λ r. ⌜ r ≡ take depth stack ++ replicate (stackSize - depth) 0 ⌝ }
 {
@@ -289,7 +289,7 @@ fn less_one(n: usize) -> usize
 }
 
 // The last return address is put back, since a return took it away, and nothing stays above it, since a call added an entry.
-fn stack_at(place: &[u8], stack: [u16; 12]) -> [u16; 12]
+fn stack_at(place: &[u8], stack: [u16; Machine::STACK]) -> [u16; Machine::STACK]
     requires { ⌜ length (now place) ≡ placeSize ⌝ }
     requires { ⌜ byteAt (now place) atDepth ≤ stackSize ⌝ }
     ensures { λ r. ⌜ r ≡ stackAt (now (place .entry)) stack ⌝ }

@@ -53,7 +53,7 @@ fn held_sound(wait: Wait) -> bool
 }
 
 // Whether the stack is clear from `at` on.
-fn clear_from(stack: [u16; 12], at: usize) -> bool
+fn clear_from(stack: [u16; Machine::STACK], at: usize) -> bool
     requires { ⌜ at ≤ 12 ⌝ }
     ensures { λ r. ⌜ r ≡ state.zeros (drop at stack) ⌝ }
 {
@@ -116,7 +116,10 @@ pub fn admitted(
     history: &[u8],
     lists: bool,
 ) -> Outcome
-    ensures { λ r. ⌜ number r ≡ unless (fit.buffersFit (world m t (now (memory .entry)) (now (picture .entry)) (now (history .entry))) && lists) (numberOf BufferLength) (unless (fit.soundly (world m t (now (memory .entry)) (now (picture .entry)) (now (history .entry)))) (numberOf Unsound) 0) ⌝ }
+    ensures { λ r. ⌜ number r ≡ unless
+        (fit.buffersFit (world m t (now (memory .entry)) (now (picture .entry)) (now (history .entry))) && lists)
+        (numberOf BufferLength)
+        (unless (fit.soundly (world m t (now (memory .entry)) (now (picture .entry)) (now (history .entry)))) (numberOf Unsound) 0) ⌝ }
     ensures { λ r. ⌜ (r ≡ Done → Ready (world m t (now (memory .entry)) (now (picture .entry)) (now (history .entry)))) ⌝ }
 {
     let fits = sizes_fit(memory, picture, history) & lists;

@@ -8,8 +8,10 @@ pub mod Undo
 pub mod Drawn
 pub mod Follow
 pub mod Sound
+pub mod Zeros
 pub mod Ready
 pub mod StepsBack
 pub mod Load
 pub mod OnlyOne
 pub mod Given
+pub mod RunsPlay

@@ -1,19 +1,17 @@
 -- A world that passes the tests 9 and 10: the tests give it, and every accepted step or tick keeps it.
-use mathlib.Core.Path.{_≡_, sym, _∙_}
+use mathlib.Core.Path.{_≡_}
 use mathlib.Core.Bool.{true, _&&_, and-eq-true-iff}
-use mathlib.Core.List.{List}
 use Prim.Native.Nat.{ℕ, zero, suc, _+_, _*_, _≤_, _<_}
 use native.Mathlib.Omega.{arith}
 use lib.ListN.{getD, length}
 use lib.Dec.{eqb, ltb, leb}
-use borrow.Author.Tests.{ltb-true, leb-true, eqb-true, le-leb, lt-ltb, eq-eqb, ne-eqb}
+use borrow.Author.Tests.{ltb-true, leb-true, eqb-true, le-leb, lt-ltb, eq-eqb}
 use Rattle.rules.specs.declared.Change.{Change}
 use Rattle.rules.specs.declared.Change.the-variants.{Nothing}
-use Rattle.rules.specs.Number.{pick, unless}
 use Rattle.rules.specs.State.{sound}
 use Rattle.rules.specs.Record.{recordOf}
 use Rattle.rules.specs.Step.{Board, refusalOf, changeOf}
-use Rattle.rules.specs.World.{World, Answer, boardOf, places, historyFits, buffersFit, trailFits, soundly, answered}
+use Rattle.rules.specs.World.{World, Answer, boardOf, places, historyFits, buffersFit, trailFits, soundly}
 use Rattle.rules.specs.Call.{nextPlace, written, acted, opAt, stepBoard, stepRefusal, stepped, step, tickBoard, ticked}
 use Rattle.rules.specs.Run.{tickedBy}
 use Rattle.rules.specs.Typed.{TypedBoard}

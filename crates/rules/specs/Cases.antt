@@ -43,7 +43,8 @@ table =
     ∷ case 0xF033 6 (v 0x0 0xFE ∷ i 0x0FFE ∷ []) []
     ∷ case 0xF155 0 (i 0x0FFE ∷ []) (i 0x1000 ∷ [])
     ∷ case 0xF155 6 (i 0x0FFF ∷ []) []
-    ∷ case 0xD012 0 (v 0x0 0x3F ∷ v 0x1 0x1F ∷ v 0xF 0x07 ∷ i 0x0300 ∷ bytes 0x0300 (0xFF ∷ 0xFF ∷ []) ∷ []) (shows lastSpot ∷ v 0xF 0x00 ∷ [])
+    ∷ case 0xD012 0 (v 0x0 0x3F ∷ v 0x1 0x1F ∷ v 0xF 0x07 ∷ i 0x0300 ∷ bytes 0x0300 (0xFF ∷ 0xFF ∷ []) ∷ [])
+    (shows lastSpot ∷ v 0xF 0x00 ∷ [])
     ∷ []
 
 -- ---- how a row is read
@@ -58,11 +59,11 @@ bare op =
     }
 
 -- a board with a fact made true, and whether a fact is true of it
-abbrev made : Fact → Board → Board
-made (v x n) b = record { machine = withReg x n (b .machine); memory = b .memory; picture = b .picture }
-made (i a) b = record { machine = withI a (b .machine); memory = b .memory; picture = b .picture }
-made (bytes a l) b = record { machine = b .machine; memory = over (b .memory) a l (length l); picture = b .picture }
-made (shows l) b = record { machine = b .machine; memory = b .memory; picture = l }
+abbrev given : Fact → Board → Board
+given (v x n) b = record { machine = withReg x n (b .machine); memory = b .memory; picture = b .picture }
+given (i a) b = record { machine = withI a (b .machine); memory = b .memory; picture = b .picture }
+given (bytes a l) b = record { machine = b .machine; memory = over (b .memory) a l (length l); picture = b .picture }
+given (shows l) b = record { machine = b .machine; memory = b .memory; picture = l }
 
 abbrev same : List ℕ → List ℕ → Bool
 same [] [] = true
@@ -76,9 +77,9 @@ isTrue (i a) b = eqb (b .machine .i) a
 isTrue (bytes a l) b = same (part (b .memory) a (length l)) l
 isTrue (shows l) b = same (b .picture) l
 
-abbrev allMade : List Fact → Board → Board
-allMade [] b = b
-allMade (f ∷ fs) b = allMade fs (made f b)
+abbrev allGiven : List Fact → Board → Board
+allGiven [] b = b
+allGiven (f ∷ fs) b = allGiven fs (given f b)
 
 abbrev allTrue : List Fact → Board → Bool
 allTrue [] b = true
@@ -90,7 +91,7 @@ worldOf b = world (b .machine) freshTrail (b .memory) (b .picture) (replicate pl
 
 abbrev holds : Case → Bool
 holds (case op refusal before then) =
-    let a = step 0 0 (worldOf (allMade before (bare op))) in
+    let a = step 0 0 (worldOf (allGiven before (bare op))) in
     eqb (a .refusal) refusal && allTrue then (boardOf (a .world))
 
 abbrev every : List Case → Bool

@@ -3,17 +3,17 @@
 use mathlib.Core.Path.{_≡_}
 use mathlib.Core.Bool.{true}
 use mathlib.Core.List.{List, [], _∷_}
-use Prim.Native.Nat.{ℕ, _+_, _-_, _<_, min}
+use Prim.Native.Nat.{ℕ, zero, suc, _+_, _-_, _<_, min}
 use lib.Dec.{eqb}
 use Rattle.rules.specs.declared.Refusal.the-variants.{NothingKept}
 use Rattle.rules.specs.Number.{pick}
 use Rattle.rules.specs.Refusal.{numberOf}
 use Rattle.rules.specs.State.{sound}
 use Rattle.rules.specs.Step.{Board}
-use Rattle.rules.specs.World.{World, Answer, boardOf, places, buffersFit}
+use Rattle.rules.specs.World.{World, boardOf, places, buffersFit}
 use Rattle.rules.specs.Load.{load}
-use Rattle.rules.specs.Call.{stepBoard, tickBoard, back}
-use Rattle.rules.specs.Run.{Move, aStep, aTick, aBack, made, playFrom, unrefused}
+use Rattle.rules.specs.Call.{step, stepBoard, tickBoard, back}
+use Rattle.rules.specs.Run.{Move, aStep, aTick, aBack, made, playFrom, unrefused, tickedBy, runRefusal, run}
 use Rattle.rules.specs.Typed.{Below, TypedBoard}
 
 -- ---- the plain list of boards, the last one first, and how many steps back are kept, at most r
@@ -61,12 +61,32 @@ pub record Told (w : World) (p : Past) : Type 0 where
   pub kept : w .trail .kept ≡ p .kept
   pub refused : (back w) .refusal ≡ pick (eqb (w .trail .kept) 0) (numberOf NothingKept) 0
 
--- ---- THE CLAIMS, proved in proofs/StepsBack.antt and proofs/Load.antt
+-- ---- the moves of a run: for each entry its ticks, then its step, up to and including the step that ends it
+
+abbrev pub ticksThen : ℕ → List Move → List Move
+ticksThen zero ms = ms
+ticksThen (suc n) ms = aTick ∷ ticksThen n ms
+
+unfoldable pub movesRun : List ℕ → List ℕ → List ℕ → World → List Move
+movesRun (t ∷ ts) (k ∷ ks) (r ∷ rs) w =
+    let a = step k r (tickedBy t w) in
+    ticksThen t (aStep k r ∷ pick (eqb (a .refusal) 0) (movesRun ts ks rs (a .world)) [])
+movesRun [] ks rs w = []
+movesRun (t ∷ ts) [] rs w = []
+movesRun (t ∷ ts) (k ∷ ks) [] w = []
+
+-- ---- THE CLAIMS, proved in proofs/StepsBack.antt, proofs/RunsPlay.antt and proofs/Load.antt
 
 abbrev pub StepsBack : Type 0
 StepsBack =
     (w : World) → TypedBoard (boardOf w) → Start w → (moves : List Move)
     → Told ((playFrom moves (unrefused w)) .world) (follow (places (w .history)) moves w (first w))
+
+-- a run gives what a play of its moves gives, so what is told of a play is told of a run
+abbrev pub RunsPlay : Type 0
+RunsPlay =
+    (ticks keys randoms : List ℕ) (w : World) → TypedBoard (boardOf w) → runRefusal ticks keys randoms w ≡ 0
+    → (run ticks keys randoms w) .answer ≡ playFrom (movesRun ticks keys randoms w) (unrefused w)
 
 -- an accepted load gives such a start
 abbrev pub LoadStarts : Type 0

@@ -92,7 +92,8 @@ abbrev pub heldByte : Wait → ℕ
 heldByte Idle = 0xFF
 heldByte (Held k) = k
 
--- what follows the registers
+-- what follows the registers: the parts stand in the table's order, and reading at the table's offsets gives each of them back, as
+-- proofs/Back.antt shows (`reads`)
 abbrev pub fields : Machine → Change → List ℕ
 fields m c =
     word (m .i) ++ word (m .pc) ++ (m .depth ∷ []) ++ word (lastReturn m)

@@ -43,7 +43,7 @@ abbrev pub awaited : ℕ → ℕ → Machine → Wait → Machine
 awaited x keys m Idle = pick (eqb keys 0) m (withWait (Held (lowestFrom 15 0 keys)) m)
 awaited x keys m (Held k) = pick (down keys k) m (onward (withWait Idle (withReg x k m)))
 
--- ---- the instructions that act on the state alone; MMM is twelve bits, as a register's number is four
+-- ---- the instructions that act on the state alone; BMMM cuts MMM to twelve bits, so that the sum fits PC whatever number is handed in
 
 abbrev pub simple : Simple → ℕ → ℕ → Machine → Machine
 simple (Jump a) keys random m = withPc a m

@@ -68,6 +68,7 @@ fresh =
       wait = Idle;
     }
 
+-- each of them is 0
 abbrev pub zeros : List ℕ → Bool
 zeros [] = true
 zeros (x ∷ xs) = eqb x 0 && zeros xs

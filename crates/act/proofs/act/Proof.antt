@@ -1,6 +1,5 @@
 -- Each arm is the definition's clause for the instruction that was matched: its callee's promise, and what it leaves alone.
 use mathlib.Core.Path.{refl}
-use native.Mathlib.Omega.{arith}
 use borrow.Author.Needs.{needs}
 use Rattle.rules.specs.Step.{after}
 use Rattle.act.proofs.Laws.{call-room, return-entry, draw-reach, decimal-reach, store-reach, fetch-reach}

@@ -1,6 +1,6 @@
 -- The tests are the callees', and a world that passes them is ready.
 use borrow.Author.Needs.{needs}
-use Rattle.rules.specs.World.{World, world}
+use Rattle.rules.specs.World.{world}
 use Rattle.rules.proofs.Given.{passed-ready}
 use Rattle.judge.proofs.admitted.Statement.{statement}
 use Rattle.judge.proofs.admitted.Tie as tie

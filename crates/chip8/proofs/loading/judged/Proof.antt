@@ -1,5 +1,4 @@
 -- Each way out has the tests that led there.
-use mathlib.Core.Bool.{_&&_}
 use borrow.Author.Needs.{needs}
 use borrow.Author.Tests.{not-true, not-false}
 use Rattle.rules.specs.Load.{loadRefusal}

@@ -1,6 +1,5 @@
 -- Each way out is a law of the step: too far, judged and refused, or judged, kept and acted.
 use mathlib.Core.Path.{_∙_, sym, ap}
-use native.Mathlib.Omega.{arith}
 use borrow.Author.Needs.{needs}
 use Rattle.rules.specs.Refusal.{number}
 use Rattle.rules.specs.World.{World, world}

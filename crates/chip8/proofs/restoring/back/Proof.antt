@@ -1,9 +1,9 @@
 -- Each way out is a law of the step back: nothing kept, damaged, or everything as the record has it.
-use mathlib.Core.Path.{_≡_, sym, ap, _∙_}
+use mathlib.Core.Path.{_≡_, sym, _∙_}
 use mathlib.Core.Bool.{false}
 use native.Mathlib.Omega.{arith}
 use borrow.Author.Needs.{needs}
-use lib.ListN.{length, length-take, length-drop}
+use lib.ListN.{length-take, length-drop}
 use Rattle.rules.specs.Record.{damaged}
 use Rattle.rules.specs.World.{World, world}
 use Rattle.rules.specs.Call.{lastRecord}

@@ -1,8 +1,6 @@
 -- In each arm the bytes that are lent are the record's old bytes, laid where the change says.
-use mathlib.Core.Path.{_≡_, refl}
+use mathlib.Core.Path.{refl}
 use native.Mathlib.Omega.{arith}
-use lib.ListN.{length}
-use Rattle.rules.specs.Memory.{part}
 use Rattle.rules.proofs.Parts.{part-length}
 use Rattle.chip8.proofs.Keep.{lent-part}
 use borrow.Author.Needs.{needs}

@@ -1,8 +1,6 @@
 -- The ticks lead to a world that is ready, and the step is made there.
-use mathlib.Core.Path.{_≡_}
 use borrow.Author.Needs.{needs}
 use Rattle.rules.specs.World.{World, world}
-use Rattle.rules.specs.Run.{tickedBy}
 use Rattle.rules.proofs.Ready.{ticks-ready}
 use Rattle.chip8.proofs.Stepped.{tickable}
 use Rattle.chip8.proofs.Ticks.{gives-world}

@@ -1,0 +1,2 @@
+-- What the calls of the boundary share in their proofs.
+pub mod Laws

@@ -1,0 +1,18 @@
+-- An image of the wrong length is refused; else the inner call.
+use borrow.Author.Needs.{needs}
+use borrow.Author.Tests.{eq-eqb, ne-eqb}
+use Rattle.card.specs.Card.{cardPlay}
+use Rattle.card.proofs.Laws.{as-it-came}
+use Rattle.card.proofs.card_play.Statement.{statement}
+use Rattle.card.proofs.card_play.Tie as tie
+
+returns : tie.Need-returns
+unfolding cardPlay
+returns c = rw (ne-eqb _ _ (c .if1 .taken)) (as-it-came _ _ _ _ _)
+
+returns-2 : tie.Need-returns-2
+unfolding cardPlay
+returns-2 c = rw (eq-eqb _ _ (c .before .before .before .before .before .before .before .before .before .before .before .before .before .if1 .left)) (c .before .before .before .before .before .before .before .before .play-in .ensures)
+
+pub card-play-spec : {M : Type 1} → statement M
+card-play-spec = tie.close (tie.spec returns (search needs) (search needs) (search needs) (search needs) (search needs) returns-2)

@@ -1,0 +1,108 @@
+-- What each call of the boundary leaves: its refusal number, 0 for done, the image, and every lent byte.
+use mathlib.Core.Path.{_≡_}
+use mathlib.Core.Bool.{Bool, true, not, _&&_, _||_}
+use mathlib.Core.List.{List, [], _∷_}
+use Prim.Native.Nat.{ℕ}
+use lib.ListN.{length}
+use lib.Dec.{eqb}
+use Rattle.rules.specs.declared.Refusal.the-variants.{BufferLength, Unsound}
+use Rattle.rules.specs.Number.{pick}
+use Rattle.rules.specs.Refusal.{numberOf}
+use Rattle.rules.specs.State.{fresh}
+use Rattle.rules.specs.World.{World, Answer, world}
+use Rattle.rules.specs.Load.{freshTrail, load}
+use Rattle.rules.specs.Call.{step, tick, back}
+use Rattle.rules.specs.Run.{run, play}
+use Rattle.image.specs.Image.{imageSize, imageOf, machineOf, trailOf}
+
+pub record Card : Type 0 where
+  pub refusal : ℕ
+  pub image : List ℕ
+  pub memory : List ℕ
+  pub picture : List ℕ
+  pub history : List ℕ
+
+-- the world that an image and the buffers beside it stand for
+abbrev pub worldOf : List ℕ → List ℕ → List ℕ → List ℕ → World
+worldOf image memory picture history = world (machineOf image) (trailOf image) memory picture history
+
+abbrev pub sized : List ℕ → Bool
+sized image = eqb (length image) imageSize
+
+-- the number and everything else as it came
+abbrev pub untouched : ℕ → List ℕ → List ℕ → List ℕ → List ℕ → Card
+untouched n image memory picture history =
+    record { refusal = n; image = image; memory = memory; picture = picture; history = history }
+
+-- what a call answered; the image is written anew where `anew` says so, and else left
+abbrev pub shown : Bool → List ℕ → Answer → Card
+shown anew image a =
+    record {
+      refusal = a .refusal;
+      image = pick anew (imageOf (a .world .machine) (a .world .trail)) image;
+      memory = a .world .memory;
+      picture = a .world .picture;
+      history = a .world .history;
+    }
+
+-- an accepted call writes the image
+abbrev pub whole : List ℕ → Answer → Card
+whole image a = shown (eqb (a .refusal) 0) image a
+
+-- a run and a play keep what they did before a refused step: only where they are refused themselves is the image left
+abbrev pub partly : List ℕ → Answer → Card
+partly image a = shown (not (eqb (a .refusal) (numberOf BufferLength) || eqb (a .refusal) (numberOf Unsound))) image a
+
+-- ---- the calls; an image, or an answer, of a wrong length is 9
+
+-- a load leaves the fresh image, refused or not
+unfoldable pub cardLoad : List ℕ → List ℕ → List ℕ → List ℕ → List ℕ → Card
+cardLoad program image memory picture history =
+    pick (sized image) (shown true image (load program memory picture history))
+    (untouched (numberOf BufferLength) image memory picture history)
+
+unfoldable pub cardStep : ℕ → ℕ → Bool → List ℕ → List ℕ → List ℕ → List ℕ → Card
+cardStep keys random answers image memory picture history =
+    pick (sized image && answers) (whole image (step keys random (worldOf image memory picture history)))
+    (untouched (numberOf BufferLength) image memory picture history)
+
+unfoldable pub cardTick : List ℕ → List ℕ → List ℕ → List ℕ → Card
+cardTick image memory picture history =
+    pick (sized image) (whole image (tick (worldOf image memory picture history)))
+    (untouched (numberOf BufferLength) image memory picture history)
+
+unfoldable pub cardBack : List ℕ → List ℕ → List ℕ → List ℕ → Card
+cardBack image memory picture history =
+    pick (sized image) (whole image (back (worldOf image memory picture history)))
+    (untouched (numberOf BufferLength) image memory picture history)
+
+unfoldable pub cardRun : List ℕ → List ℕ → List ℕ → Bool → List ℕ → List ℕ → List ℕ → List ℕ → Card
+cardRun ticks keys randoms answers image memory picture history =
+    pick (sized image && answers) (partly image ((run ticks keys randoms (worldOf image memory picture history)) .answer))
+    (untouched (numberOf BufferLength) image memory picture history)
+
+unfoldable pub cardPlay : List ℕ → List ℕ → List ℕ → List ℕ → List ℕ → List ℕ → List ℕ → Card
+cardPlay moves keys randoms image memory picture history =
+    pick (sized image) (partly image (play moves keys randoms (worldOf image memory picture history)))
+    (untouched (numberOf BufferLength) image memory picture history)
+
+-- ---- the answer's four numbers: the number of accepted steps, and three that are kept for what is to come
+
+abbrev pub answers : List ℕ → Bool
+answers answer = eqb (length answer) 4
+
+abbrev pub answered : ℕ → List ℕ → List ℕ
+answered n answer = pick (answers answer) (n ∷ 0 ∷ 0 ∷ 0 ∷ []) answer
+
+unfoldable pub runAccepted : List ℕ → List ℕ → List ℕ → List ℕ → List ℕ → List ℕ → List ℕ → ℕ
+runAccepted ticks keys randoms image memory picture history =
+    pick (sized image) ((run ticks keys randoms (worldOf image memory picture history)) .accepted) 0
+
+-- ---- the promise: what a call leaves is what the definition says, part by part
+
+pub record Leaves (c : Card) (n : ℕ) (img mem pic his : List ℕ) : Type 0 where
+  pub says : n ≡ c .refusal
+  pub image : img ≡ c .image
+  pub memory : mem ≡ c .memory
+  pub picture : pic ≡ c .picture
+  pub history : his ≡ c .history

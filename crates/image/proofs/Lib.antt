@@ -1,0 +1,2 @@
+-- What is claimed of images.
+pub mod ReadsBack

@@ -1,0 +1,12 @@
+-- Both numbers are the callee's.
+use borrow.Author.Needs.{needs}
+use Rattle.image.specs.Image.{trailOf}
+use Rattle.image.proofs.trail_in.Statement.{statement}
+use Rattle.image.proofs.trail_in.Tie as tie
+
+returns : tie.Need-returns
+unfolding trailOf
+returns c = rw (c .before .word-at .ensures, c .word-at2 .ensures)
+
+pub trail-in-spec : {M : Type 1} → statement M
+trail-in-spec = tie.close (tie.spec (search needs) (search needs) (search needs) (search needs) returns)

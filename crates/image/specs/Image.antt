@@ -1,0 +1,75 @@
+-- The image of a state: 64 bytes, numbers with their high byte first.
+use mathlib.Core.Path.{_≡_}
+use mathlib.Core.Bool.{true}
+use mathlib.Core.List.{List, [], _∷_, _++_}
+use Prim.Native.Nat.{ℕ, _+_}
+use lib.ListN.{getD, length, drop, replicate}
+use lib.Dec.{eqb}
+use Rattle.rules.specs.declared.Machine.{Machine}
+use Rattle.rules.specs.declared.Trail.{Trail}
+use Rattle.rules.specs.declared.Wait.{Wait}
+use Rattle.rules.specs.declared.Wait.the-variants.{Idle, Held}
+use Rattle.rules.specs.Number.{pick, word}
+use Rattle.rules.specs.State.{zeros}
+use Rattle.rules.specs.Memory.{part}
+use Rattle.rules.specs.Record.{byteAt, wordAt, heldByte}
+use Rattle.rules.specs.Typed.{Below}
+
+abbrev pub imageSize : ℕ
+imageSize = 64
+
+-- ---- from a state to its image
+
+-- 16: I, PC, depth, delay, tone, held key
+abbrev pub middle : Machine → List ℕ
+middle m = word (m .i) ++ word (m .pc) ++ (m .depth ∷ m .timers .delay ∷ m .timers .tone ∷ heldByte (m .wait) ∷ [])
+
+-- 24: the twelve stack entries, six and six
+abbrev pub six : ℕ → ℕ → ℕ → ℕ → ℕ → ℕ → List ℕ
+six a b c d e f = word a ++ word b ++ word c ++ word d ++ word e ++ word f
+
+abbrev pub sixFrom : ℕ → List ℕ → List ℕ
+sixFrom k s = six (getD s k 0) (getD s (k + 1) 0) (getD s (k + 2) 0) (getD s (k + 3) 0) (getD s (k + 4) 0) (getD s (k + 5) 0)
+
+-- 48: next and kept
+abbrev pub numbers : Trail → List ℕ
+numbers t = word (t .next) ++ word (t .kept)
+
+-- 52: zeros, kept for what is to come
+unfoldable pub imageOf : Machine → Trail → List ℕ
+imageOf m t = m .v ++ middle m ++ sixFrom 0 (m .stack) ++ sixFrom 6 (m .stack) ++ numbers t ++ replicate 12 0
+
+-- ---- from an image to the state that it stands for
+
+abbrev pub waitOf : ℕ → Wait
+waitOf b = pick (eqb b 0xFF) Idle (Held b)
+
+abbrev pub stackOf : List ℕ → List ℕ
+stackOf b =
+    wordAt b 24 ∷ wordAt b 26 ∷ wordAt b 28 ∷ wordAt b 30 ∷ wordAt b 32 ∷ wordAt b 34
+    ∷ wordAt b 36 ∷ wordAt b 38 ∷ wordAt b 40 ∷ wordAt b 42 ∷ wordAt b 44 ∷ wordAt b 46 ∷ []
+
+-- an image that does not end in zeros stands for an unsound state: its depth is 255
+abbrev pub depthOf : List ℕ → ℕ
+depthOf b = pick (zeros (drop 52 b)) (byteAt b 20) 255
+
+unfoldable pub machineOf : List ℕ → Machine
+machineOf b =
+    record {
+      v = part b 0 16;
+      i = wordAt b 16;
+      pc = wordAt b 18;
+      stack = stackOf b;
+      depth = depthOf b;
+      timers = record { delay = byteAt b 21; tone = byteAt b 22 };
+      wait = waitOf (byteAt b 23);
+    }
+
+unfoldable pub trailOf : List ℕ → Trail
+trailOf b = record { next = wordAt b 48; kept = wordAt b 50 }
+
+-- ---- THE CLAIM, proved in proofs/ReadsBack.antt: an image that is read and written again is the same bytes
+
+abbrev pub ReadsBack : Type 0
+ReadsBack =
+    (b : List ℕ) → length b ≡ imageSize → Below 256 b → zeros (drop 52 b) ≡ true → imageOf (machineOf b) (trailOf b) ≡ b

@@ -1,0 +1,201 @@
+// A state and its two numbers, read from an image of 64 bytes and written to one.
+ghost use mathlib.Core.Path.{_≡_};
+ghost use lib.ListN.{drop, length};
+ghost use Rattle.rules.specs.Number.{pick};
+ghost use Rattle.rules.specs.State.{zeros};
+ghost use Rattle.rules.specs.Memory.{part};
+ghost use Rattle.rules.specs.Record.{heldByte};
+ghost use Rattle.image.specs.Image.{imageSize, middle, six, numbers, imageOf, waitOf, stackOf, machineOf, trailOf};
+use rules::Machine;
+use rules::Timers;
+use rules::Trail;
+use rules::Wait;
+
+// How many bytes an image has.
+pub const IMAGE: usize = 64;
+
+// A state and the numbers of its history.
+pub struct Standing {
+    pub machine: Machine,
+    pub trail: Trail,
+}
+
+// ---- reading
+
+// Whether the bytes that are kept for later are 0.
+fn ends_clear(image: &[u8]) -> bool
+    requires { ⌜ length (now image) ≡ imageSize ⌝ }
+    ensures { λ r. ⌜ r ≡ zeros (drop 52 (now (image .entry))) ⌝ }
+{
+    let mut k = 52;
+    while k < IMAGE {
+        if image[k] != 0 {
+            return false;
+        }
+        k += 1;
+    }
+    true
+}
+
+fn registers_in(image: &[u8]) -> [u8; 16]
+    requires { ⌜ length (now image) ≡ imageSize ⌝ }
+    ensures { λ r. ⌜ r ≡ part (now (image .entry)) 0 16 ⌝ }
+{
+    let mut v = [0; 16];
+    memory::lay(&mut v, 0, &image[0..16]);
+    v
+}
+
+fn stack_in(image: &[u8]) -> [u16; 12]
+    requires { ⌜ length (now image) ≡ imageSize ⌝ }
+    ensures { λ r. ⌜ r ≡ stackOf (now (image .entry)) ⌝ }
+{
+    [
+        memory::word_at(image, 24),
+        memory::word_at(image, 26),
+        memory::word_at(image, 28),
+        memory::word_at(image, 30),
+        memory::word_at(image, 32),
+        memory::word_at(image, 34),
+        memory::word_at(image, 36),
+        memory::word_at(image, 38),
+        memory::word_at(image, 40),
+        memory::word_at(image, 42),
+        memory::word_at(image, 44),
+        memory::word_at(image, 46),
+    ]
+}
+
+fn wait_of(byte: u8) -> Wait
+    ensures { λ r. ⌜ r ≡ waitOf byte ⌝ }
+{
+    if byte == 0xFF {
+        Wait::Idle
+    } else {
+        Wait::Held(byte)
+    }
+}
+
+// The depth; 255, which no sound state has, where the image does not end in zeros.
+fn depth_of(clear: bool, byte: u8) -> u8
+    ensures { λ r. ⌜ r ≡ pick clear byte 255 ⌝ }
+{
+    if clear { byte } else { 255 }
+}
+
+fn machine_in(image: &[u8]) -> Machine
+    requires { ⌜ length (now image) ≡ imageSize ⌝ }
+    ensures { λ r. ⌜ r ≡ machineOf (now (image .entry)) ⌝ }
+{
+    let v = registers_in(image);
+    let stack = stack_in(image);
+    let timers = Timers {
+        delay: image[21],
+        tone: image[22],
+    };
+    Machine {
+        v,
+        i: memory::word_at(image, 16),
+        pc: memory::word_at(image, 18),
+        stack,
+        depth: depth_of(ends_clear(image), image[20]),
+        timers,
+        wait: wait_of(image[23]),
+    }
+}
+
+fn trail_in(image: &[u8]) -> Trail
+    requires { ⌜ length (now image) ≡ imageSize ⌝ }
+    ensures { λ r. ⌜ r ≡ trailOf (now (image .entry)) ⌝ }
+{
+    Trail {
+        next: memory::word_at(image, 48) as usize,
+        kept: memory::word_at(image, 50) as usize,
+    }
+}
+
+// The state and the numbers that an image stands for.
+pub fn read(image: &[u8]) -> Standing
+    requires { ⌜ length (now image) ≡ imageSize ⌝ }
+    ensures { λ r. ⌜ (r .machine ≡ machineOf (now (image .entry))) × (r .trail ≡ trailOf (now (image .entry))) ⌝ }
+{
+    let machine = machine_in(image);
+    let trail = trail_in(image);
+    Standing { machine, trail }
+}
+
+// ---- writing
+
+fn held_byte(w: Wait) -> u8
+    ensures { λ r. ⌜ r ≡ heldByte w ⌝ }
+{
+    match w {
+        Wait::Idle => 0xFF,
+        Wait::Held(k) => k,
+    }
+}
+
+fn middle_of(m: Machine) -> [u8; 8]
+    ensures { λ r. ⌜ r ≡ middle m ⌝ }
+{
+    let wait = m.wait;
+    [
+        memory::high(m.i),
+        memory::low(m.i),
+        memory::high(m.pc),
+        memory::low(m.pc),
+        m.depth,
+        m.timers.delay,
+        m.timers.tone,
+        held_byte(wait),
+    ]
+}
+
+fn six_of(a: u16, b: u16, c: u16, d: u16, e: u16, f: u16) -> [u8; 12]
+    ensures { λ r. ⌜ r ≡ six a b c d e f ⌝ }
+{
+    [
+        memory::high(a),
+        memory::low(a),
+        memory::high(b),
+        memory::low(b),
+        memory::high(c),
+        memory::low(c),
+        memory::high(d),
+        memory::low(d),
+        memory::high(e),
+        memory::low(e),
+        memory::high(f),
+        memory::low(f),
+    ]
+}
+
+fn numbers_of(t: Trail) -> [u8; 4]
+    ensures { λ r. ⌜ r ≡ numbers t ⌝ }
+{
+    [
+        (t.next / 256 % 256) as u8,
+        (t.next % 256) as u8,
+        (t.kept / 256 % 256) as u8,
+        (t.kept % 256) as u8,
+    ]
+}
+
+// Writes the image of a state and its numbers.
+pub fn write(image: &mut [u8], m: Machine, t: Trail)
+    requires { ⌜ length (now image) ≡ imageSize ⌝ }
+    ensures { λ _. ⌜ now (image .exit) ≡ imageOf m t ⌝ }
+{
+    let v = m.v;
+    let middle = middle_of(m);
+    let s = m.stack;
+    let lower = six_of(s[0], s[1], s[2], s[3], s[4], s[5]);
+    let upper = six_of(s[6], s[7], s[8], s[9], s[10], s[11]);
+    let numbers = numbers_of(t);
+    memory::lay(image, 0, &v);
+    memory::lay(image, 16, &middle);
+    memory::lay(image, 24, &lower);
+    memory::lay(image, 36, &upper);
+    memory::lay(image, 48, &numbers);
+    memory::clear(image, 52);
+}

@@ -1,0 +1,59 @@
+-- The proof that a run gives what a play of its ticks and steps gives (Past): no tick of it is refused.
+use mathlib.Core.Path.{_≡_, refl, sym, ap, _∙_}
+use mathlib.Core.Bool.{Bool, true, false, _&&_, and-eq-true-iff}
+use mathlib.Core.List.{List, [], _∷_}
+use Prim.Native.Nat.{ℕ, zero, suc, _+_}
+use lib.Dec.{eqb}
+use borrow.Author.Tests.{le-leb, eqb-true, eq-eqb}
+use Rattle.rules.specs.Number.{pick}
+use Rattle.rules.specs.World.{World, Answer, buffersFit, soundly}
+use Rattle.rules.specs.Call.{step, tick, ticked, tickRefusal}
+use Rattle.rules.specs.Run.{Move, aStep, playFrom, unrefused, tickedBy, runFrom, runRefusal, run, listsFit, Ran}
+use Rattle.rules.specs.Past.{ticksThen, movesRun, RunsPlay}
+use Rattle.rules.proofs.Choices.{and-both, passed}
+use Rattle.rules.proofs.Ready.{Ready, tests-ready, ready-soundly, step-ready, ticked-ready, ticks-ready}
+use Rattle.rules.proofs.Given.{answered-done}
+
+tick-done : (w : World) → Ready w → tick w ≡ unrefused (ticked w)
+unfolding tick tickRefusal
+tick-done w h =
+    answered-done (tickRefusal w) (ticked w) w (rw (and-both (le-leb _ _ (h .least)) (le-leb _ _ (h .most)), ready-soundly w h))
+
+after-ticks : (n : ℕ) (ms : List Move) (w : World) → Ready w
+    → playFrom (ticksThen n ms) (unrefused w) ≡ playFrom ms (unrefused (tickedBy n w))
+unfolding playFrom
+after-ticks zero ms w h = refl
+after-ticks (suc n) ms w h = ap (playFrom (ticksThen n ms)) (tick-done w h) ∙ after-ticks n ms (ticked w) (ticked-ready w h)
+
+-- an entry: its step is refused and ends the run, or the rest goes on from the world that it gave
+entry-plays : (a : Answer) (later : Ran) (moves : List Move) (n : ℕ) → later .answer ≡ playFrom moves (unrefused (a .world))
+    → (pick (eqb (a .refusal) 0) later (record { accepted = n; answer = a })) .answer ≡ playFrom (pick (eqb (a .refusal) 0) moves []) a
+unfolding playFrom
+entry-plays a later moves n e = go (eqb (a .refusal) 0) refl
+  where
+    on : a .refusal ≡ 0 → unrefused (a .world) ≡ a
+    on z = let back = sym z in λ i. record { refusal = back i; world = a .world }
+
+    go : (b : Bool) → eqb (a .refusal) 0 ≡ b
+        → (pick {A = Ran} b later (record { accepted = n; answer = a })) .answer ≡ playFrom (pick {A = List Move} b moves []) a
+    go true z = e ∙ ap (playFrom moves) (on (eqb-true (a .refusal) 0 z))
+    go false z = refl
+
+plays : (n : ℕ) (ts ks rs : List ℕ) (w : World) → Ready w → (runFrom n ts ks rs w) .answer ≡ playFrom (movesRun ts ks rs w) (unrefused w)
+unfolding runFrom movesRun playFrom
+plays n [] ks rs w h = refl
+plays n (t ∷ ts) [] rs w h = refl
+plays n (t ∷ ts) (k ∷ ks) [] w h = refl
+plays n (t ∷ ts) (k ∷ ks) (r ∷ rs) w h =
+    let a = step k r (tickedBy t w) in
+    entry-plays a (runFrom (n + 1) ts ks rs (a .world)) (movesRun ts ks rs (a .world)) n
+    (plays (n + 1) ts ks rs (a .world) (step-ready (tickedBy t w) (ticks-ready t w h) k r))
+    ∙ sym (after-ticks t (aStep k r ∷ pick (eqb (a .refusal) 0) (movesRun ts ks rs (a .world)) []) w h)
+
+pub runs-play : RunsPlay
+unfolding run runRefusal
+runs-play ticks keys randoms w typed e =
+    let first = passed (buffersFit w && listsFit ticks keys randoms) 8 _ e in
+    let sound = passed (soundly w) 9 0 (first .1) in
+    let ready = tests-ready w typed (and-eq-true-iff (buffersFit w) (listsFit ticks keys randoms) .0 (first .0) .0) (sound .0) in
+    rw (eq-eqb (runRefusal ticks keys randoms w) 0 e) (plays 0 ticks keys randoms w ready)
