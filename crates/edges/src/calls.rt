@@ -1,101 +1,94 @@
-// The library's calls, made on a card.
-use crate::card;
-use crate::card::Card;
-use crate::script::Line;
+// The library's calls. They are made without what they promise, since this program only writes what came of them.
+use bench::report;
+use bench::script::Line;
 use chip8::Answer;
 
-// What came of a call: the refusal or 0, how many actions were accepted where there is more than one, and the card after it.
-pub struct Came {
-    pub refusal: u8,
-    pub count: usize,
-    pub card: Card,
-}
-
-fn told(card: Card, answer: Answer) -> Came {
-    let outcome = answer.outcome;
-    let machine = answer.machine;
-    let trail = answer.trail;
-    Came {
-        refusal: text::number(outcome),
-        count: 0,
-        card: card.with(machine, trail),
-    }
-}
-
-fn load(
-    card: Card,
-    program: &[u8],
-    size: usize,
-    memory: &mut [u8],
-    picture: &mut [u8],
-    history: &mut [u8],
-) -> Came {
-    let p = card::within(size, program);
-    let m = card::within(card.memory, memory);
-    let f = card::within(card.picture, picture);
-    let h = card::within(card.history, history);
-    told(
-        card,
-        chip8::load(
-            &program[..p],
-            &mut memory[..m],
-            &mut picture[..f],
-            &mut history[..h],
-        ),
-    )
+fn load(program: &[u8], memory: &mut [u8], picture: &mut [u8], history: &mut [u8]) -> Answer {
+    chip8::load(program, memory, picture, history)
 }
 
 fn step(
-    card: Card,
+    card: Answer,
     memory: &mut [u8],
     picture: &mut [u8],
     history: &mut [u8],
     keys: u16,
     random: u8,
-) -> Came {
-    let m = card::within(card.memory, memory);
-    let f = card::within(card.picture, picture);
-    let h = card::within(card.history, history);
+) -> Answer {
     let machine = card.machine;
     let trail = card.trail;
-    told(
-        card,
-        chip8::step(
-            machine,
-            trail,
-            &mut memory[..m],
-            &mut picture[..f],
-            &mut history[..h],
-            keys,
-            random,
-        ),
+    chip8::step(machine, trail, memory, picture, history, keys, random)
+}
+
+fn tick(card: Answer, history: &mut [u8]) -> Answer {
+    let machine = card.machine;
+    let trail = card.trail;
+    chip8::tick(machine, trail, history)
+}
+
+fn back(card: Answer, memory: &mut [u8], picture: &mut [u8], history: &[u8]) -> Answer {
+    let machine = card.machine;
+    let trail = card.trail;
+    chip8::back(machine, trail, memory, picture, history)
+}
+
+// How many steps were accepted is written here.
+fn run(
+    card: Answer,
+    memory: &mut [u8],
+    picture: &mut [u8],
+    history: &mut [u8],
+    ticks: &[u8],
+    keys: &[u16],
+    randoms: &[u8],
+) -> Answer {
+    let machine = card.machine;
+    let trail = card.trail;
+    let ran = chip8::run(
+        machine,
+        trail,
+        memory,
+        picture,
+        history,
+        ticks,
+        keys,
+        randoms,
+    );
+    report::accepted(ran.accepted);
+    let outcome = ran.outcome;
+    let machine = ran.machine;
+    let trail = ran.trail;
+    Answer {
+        outcome,
+        machine,
+        trail,
+    }
+}
+
+fn play(
+    card: Answer,
+    memory: &mut [u8],
+    picture: &mut [u8],
+    history: &mut [u8],
+    moves: &[u8],
+    keys: &[u16],
+    randoms: &[u8],
+) -> Answer {
+    let machine = card.machine;
+    let trail = card.trail;
+    chip8::play(
+        machine,
+        trail,
+        memory,
+        picture,
+        history,
+        moves,
+        keys,
+        randoms,
     )
 }
 
-fn tick(card: Card, history: &mut [u8]) -> Came {
-    let h = card::within(card.history, history);
-    let machine = card.machine;
-    let trail = card.trail;
-    told(card, chip8::tick(machine, trail, &mut history[..h]))
-}
-
-fn back(card: Card, memory: &mut [u8], picture: &mut [u8], history: &[u8]) -> Came {
-    let m = card::within(card.memory, memory);
-    let f = card::within(card.picture, picture);
-    let h = card::within(card.history, history);
-    let machine = card.machine;
-    let trail = card.trail;
-    told(
-        card,
-        chip8::back(
-            machine,
-            trail,
-            &mut memory[..m],
-            &mut picture[..f],
-            &history[..h],
-        ),
-    )
-}
+// ---- a step on an instruction of the script's
 
 // The two bytes of an instruction, at PC.
 fn put_op(memory: &mut [u8], pc: u16, op: u16) {
@@ -107,169 +100,100 @@ fn put_op(memory: &mut [u8], pc: u16, op: u16) {
 }
 
 fn step_on(
-    card: Card,
+    card: Answer,
     memory: &mut [u8],
     picture: &mut [u8],
     history: &mut [u8],
     line: Line,
-) -> Came {
+) -> Answer {
     let machine = card.machine;
     put_op(memory, machine.pc, line.word(1));
     step(card, memory, picture, history, line.word(2), line.byte(3))
 }
 
-fn run(
-    card: Card,
-    memory: &mut [u8],
-    picture: &mut [u8],
-    history: &mut [u8],
-    ticks: &[u8],
-    keys: &[u16],
-    randoms: &[u8],
-) -> Came {
-    let m = card::within(card.memory, memory);
-    let f = card::within(card.picture, picture);
-    let h = card::within(card.history, history);
-    let machine = card.machine;
-    let trail = card.trail;
-    let ran = chip8::run(
-        machine,
-        trail,
-        &mut memory[..m],
-        &mut picture[..f],
-        &mut history[..h],
-        ticks,
-        keys,
-        randoms,
-    );
-    let outcome = ran.outcome;
-    let machine = ran.machine;
-    let trail = ran.trail;
-    Came {
-        refusal: text::number(outcome),
-        count: ran.accepted,
-        card: card.with(machine, trail),
-    }
-}
-
-fn play(
-    card: Card,
-    memory: &mut [u8],
-    picture: &mut [u8],
-    history: &mut [u8],
-    moves: &[u8],
-    keys: &[u16],
-    randoms: &[u8],
-) -> Came {
-    let m = card::within(card.memory, memory);
-    let f = card::within(card.picture, picture);
-    let h = card::within(card.history, history);
-    let machine = card.machine;
-    let trail = card.trail;
-    told(
-        card,
-        chip8::play(
-            machine,
-            trail,
-            &mut memory[..m],
-            &mut picture[..f],
-            &mut history[..h],
-            moves,
-            keys,
-            randoms,
-        ),
-    )
-}
-
 // ---- walks
 
-// The action number i of a walk: a tick at every fifth, and else a step, with the keys down at every second and a random byte of its
-// own.
+fn is_refused(card: Answer) -> bool {
+    let outcome = card.outcome;
+    text::number(outcome) != 0
+}
+
+// The keys are down at every second action of a walk.
+fn keys_at(i: usize, keys: u16) -> u16 {
+    if i % 2 == 0 { keys } else { 0 }
+}
+
+// Action number i of a walk: a tick at every fifth, and else a step, with a random byte of its own.
 fn action(
-    card: Card,
+    card: Answer,
     memory: &mut [u8],
     picture: &mut [u8],
     history: &mut [u8],
     i: usize,
     keys: u16,
-) -> Came {
+) -> Answer {
     if i % 5 == 4 {
         return tick(card, history);
     }
-    let random = (i % 256 * 7 % 256) as u8;
-    if i % 2 == 0 {
-        step(card, memory, picture, history, keys, random)
-    } else {
-        step(card, memory, picture, history, 0, random)
-    }
+    step(
+        card,
+        memory,
+        picture,
+        history,
+        keys_at(i, keys),
+        (i % 256 * 7 % 256) as u8,
+    )
 }
 
 // Many actions, up to the first that is refused.
 fn forward(
-    card: Card,
+    card: Answer,
     memory: &mut [u8],
     picture: &mut [u8],
     history: &mut [u8],
     count: usize,
     keys: u16,
-) -> Came {
-    let mut c = card;
+) -> Answer {
+    let mut last = card;
     let mut i = 0;
     while i < count {
-        let next = action(c, memory, picture, history, i, keys);
-        let after = next.card;
-        c = after;
-        if next.refusal != 0 {
-            return Came {
-                refusal: next.refusal,
-                count: i,
-                card: c,
-            };
+        last = action(last, memory, picture, history, i, keys);
+        if is_refused(last) {
+            report::accepted(i);
+            return last;
         }
         i += 1;
     }
-    Came {
-        refusal: 0,
-        count,
-        card: c,
-    }
+    report::accepted(i);
+    last
 }
 
 // Many steps back, up to the first that is refused.
 fn backward(
-    card: Card,
+    card: Answer,
     memory: &mut [u8],
     picture: &mut [u8],
     history: &[u8],
     count: usize,
-) -> Came {
-    let mut c = card;
+) -> Answer {
+    let mut last = card;
     let mut i = 0;
     while i < count {
-        let next = back(c, memory, picture, history);
-        let before = next.card;
-        c = before;
-        if next.refusal != 0 {
-            return Came {
-                refusal: next.refusal,
-                count: i,
-                card: c,
-            };
+        last = back(last, memory, picture, history);
+        if is_refused(last) {
+            report::accepted(i);
+            return last;
         }
         i += 1;
     }
-    Came {
-        refusal: 0,
-        count,
-        card: c,
-    }
+    report::accepted(i);
+    last
 }
 
 // ---- by the line's letter
 
-// The calls on lists, of as many entries as the line says for each.
-fn made_on_lists(
-    card: Card,
+pub fn made_on_lists(
+    card: Answer,
     line: Line,
     memory: &mut [u8],
     picture: &mut [u8],
@@ -277,52 +201,29 @@ fn made_on_lists(
     bytes: &[u8],
     keys: &[u16],
     randoms: &[u8],
-) -> Came {
-    let a = card::within(line.size(1), bytes);
-    let k = card::within_words(line.size(2), keys);
-    let r = card::within(line.size(3), randoms);
-    if line.letter == b'R' {
-        run(
-            card,
-            memory,
-            picture,
-            history,
-            &bytes[..a],
-            &keys[..k],
-            &randoms[..r],
-        )
-    } else {
-        play(
-            card,
-            memory,
-            picture,
-            history,
-            &bytes[..a],
-            &keys[..k],
-            &randoms[..r],
-        )
+) -> Answer {
+    let letter = line.letter;
+    match letter {
+        b'L' => load(bytes, memory, picture, history),
+        b'R' => run(card, memory, picture, history, bytes, keys, randoms),
+        _ => play(card, memory, picture, history, bytes, keys, randoms),
     }
 }
 
 pub fn made(
-    card: Card,
+    card: Answer,
     line: Line,
     memory: &mut [u8],
     picture: &mut [u8],
     history: &mut [u8],
-    bytes: &[u8],
-    keys: &[u16],
-    randoms: &[u8],
-) -> Came {
+) -> Answer {
     let letter = line.letter;
     match letter {
-        b'S' => step(card, memory, picture, history, line.word(1), line.byte(2)),
         b'O' => step_on(card, memory, picture, history, line),
         b'T' => tick(card, history),
         b'B' => back(card, memory, picture, history),
-        b'L' => load(card, bytes, line.size(1), memory, picture, history),
         b'F' => forward(card, memory, picture, history, line.size(1), line.word(2)),
         b'U' => backward(card, memory, picture, history, line.size(1)),
-        _ => made_on_lists(card, line, memory, picture, history, bytes, keys, randoms),
+        _ => step(card, memory, picture, history, line.word(1), line.byte(2)),
     }
 }

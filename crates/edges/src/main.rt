@@ -14,52 +14,45 @@
 //   F NNNN KKKK   U NNNN   so many actions forward, steps back
 //   m g h AAAA NN          shows bytes of memory, the picture, the history
 mod calls;
-mod card;
-mod report;
-mod script;
 
-ghost use Prim.Native.Nat.{_≤_, _<_};
-ghost use lib.ListN.{length};
-use card::Card;
-use script::Line;
+use bench::card;
+use bench::card::Sizes;
+use bench::report;
+use bench::script;
+use bench::script::Line;
+use chip8::Answer;
+
+// ---- what a line does to the lists, to the buffers, and through the library
+
+fn set_lists(line: Line, bytes: &mut [u8], keys: &mut [u16], randoms: &mut [u8]) {
+    let letter = line.letter;
+    match letter {
+        b'#' => {
+            memory::clear(bytes, 0);
+            memory::clear(randoms, 0);
+            card::clear_keys(keys);
+        }
+        b'b' => card::poke(bytes, line),
+        b'e' => card::set_entry(bytes, keys, randoms, line),
+        _ => {}
+    }
+}
 
 // The heading of a case, which sets everything back.
-fn reset(
-    heading: &[u8],
-    memory: &mut [u8],
-    picture: &mut [u8],
-    history: &mut [u8],
-    bytes: &mut [u8],
-    keys: &mut [u16],
-    randoms: &mut [u8],
-) -> Card {
+fn reset(heading: &[u8], memory: &mut [u8], picture: &mut [u8], history: &mut [u8]) -> Answer {
     report::heading(heading);
     memory::clear(memory, 0);
     memory::clear(picture, 0);
     memory::clear(history, 0);
-    memory::clear(bytes, 0);
-    memory::clear(randoms, 0);
-    card::clear_keys(keys);
-    Card::fresh()
+    card::fresh()
 }
 
-// Bytes into a buffer, or an entry of the lists.
-fn store(
-    line: Line,
-    memory: &mut [u8],
-    picture: &mut [u8],
-    history: &mut [u8],
-    bytes: &mut [u8],
-    keys: &mut [u16],
-    randoms: &mut [u8],
-) {
+fn store(line: Line, memory: &mut [u8], picture: &mut [u8], history: &mut [u8]) {
     let letter = line.letter;
     match letter {
         b'M' => card::poke(memory, line),
         b'P' => card::poke(picture, line),
-        b'H' => card::poke(history, line),
-        b'b' => card::poke(bytes, line),
-        _ => card::set_entry(bytes, keys, randoms, line),
+        _ => card::poke(history, line),
     }
 }
 
@@ -75,44 +68,102 @@ fn show(line: Line, memory: &[u8], picture: &[u8], history: &[u8]) {
 // A call, and its line.
 fn call(
     line: Line,
-    card: Card,
+    card: Answer,
+    sizes: Sizes,
+    memory: &mut [u8],
+    picture: &mut [u8],
+    history: &mut [u8],
+) -> Answer {
+    let a = card::within(sizes.memory, memory);
+    let b = card::within(sizes.picture, picture);
+    let c = card::within(sizes.history, history);
+    report::name(line.letter);
+    let after = calls::made(
+        card,
+        line,
+        &mut memory[..a],
+        &mut picture[..b],
+        &mut history[..c],
+    );
+    report::answer(after, sizes, memory, picture, history);
+    after
+}
+
+// The same of a load, a run and a play, on as much of each list as the line says.
+fn call_on_lists(
+    line: Line,
+    card: Answer,
+    sizes: Sizes,
     memory: &mut [u8],
     picture: &mut [u8],
     history: &mut [u8],
     bytes: &[u8],
     keys: &[u16],
     randoms: &[u8],
-) -> Card {
-    let came = calls::made(card, line, memory, picture, history, bytes, keys, randoms);
-    report::call(line.letter, came, memory, picture, history);
-    came.card
+) -> Answer {
+    let a = card::within(sizes.memory, memory);
+    let b = card::within(sizes.picture, picture);
+    let c = card::within(sizes.history, history);
+    let d = card::within(line.size(1), bytes);
+    let e = card::within_words(line.size(2), keys);
+    let f = card::within(line.size(3), randoms);
+    report::name(line.letter);
+    let after = calls::made_on_lists(
+        card,
+        line,
+        &mut memory[..a],
+        &mut picture[..b],
+        &mut history[..c],
+        &bytes[..d],
+        &keys[..e],
+        &randoms[..f],
+    );
+    report::answer(after, sizes, memory, picture, history);
+    after
 }
 
 fn obey(
     text: &[u8],
     line: Line,
-    card: Card,
+    card: Answer,
+    sizes: Sizes,
     memory: &mut [u8],
     picture: &mut [u8],
     history: &mut [u8],
-    bytes: &mut [u8],
-    keys: &mut [u16],
-    randoms: &mut [u8],
-) -> Card {
+    bytes: &[u8],
+    keys: &[u16],
+    randoms: &[u8],
+) -> Answer {
     let letter = line.letter;
     match letter {
-        b'#' => reset(text, memory, picture, history, bytes, keys, randoms),
-        b'M' | b'P' | b'H' | b'b' | b'e' => {
-            store(line, memory, picture, history, bytes, keys, randoms);
+        b'#' => reset(text, memory, picture, history),
+        b'M' | b'P' | b'H' => {
+            store(line, memory, picture, history);
             card
         }
         b'm' | b'g' | b'h' => {
             show(line, memory, picture, history);
             card
         }
-        b'S' | b'O' | b'T' | b'B' | b'L' | b'R' | b'Y' | b'F' | b'U' => {
-            call(line, card, memory, picture, history, bytes, keys, randoms)
-        }
+        b'L' | b'R' | b'Y' => call_on_lists(
+            line,
+            card,
+            sizes,
+            memory,
+            picture,
+            history,
+            bytes,
+            keys,
+            randoms,
+        ),
+        b'S' | b'O' | b'T' | b'B' | b'F' | b'U' => call(
+            line,
+            card,
+            sizes,
+            memory,
+            picture,
+            history,
+        ),
         _ => card::changed(card, line),
     }
 }
@@ -127,15 +178,19 @@ fn obey_all(
     keys: &mut [u16],
     randoms: &mut [u8],
 ) {
-    let mut card = Card::fresh();
+    let mut card = card::fresh();
+    let mut sizes = Sizes::right();
     let mut at = 0;
     while at < text.len() {
         let line = script::read(text, at);
         let end = line.end;
+        sizes = sizes.after(line);
+        set_lists(line, bytes, keys, randoms);
         card = obey(
             &text[at..end],
             line,
             card,
+            sizes,
             memory,
             picture,
             history,

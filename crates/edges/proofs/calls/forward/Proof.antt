@@ -7,10 +7,10 @@ use Rattle.edges.proofs.calls.forward.Statement.{statement}
 use Rattle.edges.proofs.calls.forward.Tie as tie
 
 abbrev Inv-loop : tie.InvT-loop
-Inv-loop memory₀ picture₀ history₀ count keys c₀ i₀ memory picture history c i = (length memory ≡ length memory₀) × (length picture ≡ length picture₀) × (length history ≡ length history₀)
+Inv-loop memory₀ picture₀ history₀ count keys last₀ i₀ memory picture history last i = (length memory ≡ length memory₀) × (length picture ≡ length picture₀) × (length history ≡ length history₀)
 
 abbrev μ-loop : tie.MeasureT-loop
-μ-loop memory₀ picture₀ history₀ count keys c₀ i₀ memory picture history c i = count - i
+μ-loop memory₀ picture₀ history₀ count keys last₀ i₀ memory picture history last i = count - i
 
 pub forward-spec : {M : Type 1} → statement M
-forward-spec = tie.close (tie.spec Inv-loop μ-loop (λ c. search needs) (λ c κs. search needs) (λ c. search needs) (λ c. search needs) (λ c. search needs) (λ c. search needs) (λ c. search needs) (λ c. search needs) (λ c. search needs) (λ c. search needs) (λ c. search needs) (λ c. search needs) (λ c. search needs))
+forward-spec = tie.close (tie.spec Inv-loop μ-loop (λ c. search needs) (λ c κs. search needs) (λ c κs. search needs) (λ c κs. search needs) (λ c. search needs) (λ c. search needs) (λ c. search needs) (λ c. search needs) (λ c. search needs) (λ c. search needs) (λ c. search needs) (λ c κs. search needs) (λ c. search needs) (λ c. search needs) (λ c. search needs) (λ c. search needs))

@@ -36,7 +36,7 @@ returns c =
     let q = put .put-stop .ensures in
     let p = loop .loop .inv .0 in
     let told = sym (step .step .ensures .says) ∙ sym (number .number .ensures) in
-    (omega (arith, q .ends, q .room, loop .loop .inv .1), stopped p (step .before .before .before .before .before .before .loop-test .taken) told (put .before .before .if1 .taken) q)
+    (omega (arith, q .ends, q .room, loop .loop .inv .1), stopped p (omega (arith, step .before .before .before .before .before .before .loop-test .taken)) told (put .before .before .if1 .taken) q)
 
 put-step-requires : tie.Need-put-step-requires Inv-loop μ-loop
 put-step-requires c κs =
@@ -55,7 +55,7 @@ loop-again c =
     let g = step .step .ensures in
     let done = sym (g .says) ∙ sym (number .number .ensures) ∙ if .if1 .left in
     let q = put .put-step .ensures in (
-      more (i .0) (word .before .before .loop-test .taken) done (handed g) (rw (word .word-at .ensures) at (q .0)) (q .1),
+      more (i .0) (omega (arith, word .before .before .loop-test .taken)) done (handed g) (rw (word .word-at .ensures) at (q .0)) (q .1),
       put .put-step .kept .0 ∙ i .1,
       step .step .kept .1 .1 .0 ∙ i .2,
       step .step .kept .1 .1 .1 .0 ∙ i .3,

@@ -1,10 +1,10 @@
 // What the program writes.
-use crate::calls::Came;
 use crate::card;
-use crate::card::Card;
+use crate::card::Sizes;
 use crate::script::Line;
+use chip8::Answer;
 use rules::Machine;
-use rules::Trail;
+use rules::Outcome;
 use rules::Wait;
 
 // ---- sums, in which each byte and its place count
@@ -88,19 +88,19 @@ fn write_machine(m: Machine) {
     write_byte(b"", timers.tone);
 }
 
-fn write_sums(card: Card, memory: &[u8], picture: &[u8], history: &[u8]) {
-    let machine = card.machine;
-    let m = card::within(card.memory, memory);
-    let f = card::within(card.picture, picture);
-    let h = card::within(card.history, history);
-    write_word(b" sums", sum_of_registers(machine));
-    write_word(b"", sum_of_stack(machine));
-    write_word(b"", sum_of(&memory[..m]));
-    write_word(b"", sum_of(&picture[..f]));
-    write_word(b"", sum_of(&history[..h]));
+// Of V, of the stack, and of as much of the buffers as was lent.
+fn write_sums(m: Machine, sizes: Sizes, memory: &[u8], picture: &[u8], history: &[u8]) {
+    let a = card::within(sizes.memory, memory);
+    let b = card::within(sizes.picture, picture);
+    let c = card::within(sizes.history, history);
+    write_word(b" sums", sum_of_registers(m));
+    write_word(b"", sum_of_stack(m));
+    write_word(b"", sum_of(&memory[..a]));
+    write_word(b"", sum_of(&picture[..b]));
+    write_word(b"", sum_of(&history[..c]));
 }
 
-fn write_name(letter: u8) {
+pub fn name(letter: u8) {
     match letter {
         b'T' => io::write_all(1, b"tick"),
         b'B' => io::write_all(1, b"back"),
@@ -114,26 +114,26 @@ fn write_name(letter: u8) {
     ;
 }
 
-// The refusal in decimal, and how many actions were accepted where the call makes many.
-fn write_outcome(letter: u8, came: Came) {
-    io::write_all(1, b" ");
-    io::print_decimal(1, came.refusal as u64);
-    match letter {
-        b'R' | b'F' | b'U' => write_size(b" accepted", came.count),
-        _ => {}
-    }
+// How many actions were accepted, of a call that makes many.
+pub fn accepted(count: usize) {
+    write_size(b" accepted", count);
 }
 
-// The line of a call.
-pub fn call(letter: u8, came: Came, memory: &[u8], picture: &[u8], history: &[u8]) {
-    let card = came.card;
+fn write_refusal(outcome: Outcome) {
+    io::write_all(1, b" refusal ");
+    io::print_decimal(1, text::number(outcome) as u64);
+}
+
+// What a call handed back.
+pub fn answer(card: Answer, sizes: Sizes, memory: &[u8], picture: &[u8], history: &[u8]) {
+    let outcome = card.outcome;
+    let machine = card.machine;
     let trail = card.trail;
-    write_name(letter);
-    write_outcome(letter, came);
-    write_machine(card.machine);
+    write_refusal(outcome);
+    write_machine(machine);
     write_size(b" next", trail.next);
     write_size(b" kept", trail.kept);
-    write_sums(card, memory, picture, history);
+    write_sums(machine, sizes, memory, picture, history);
     io::write_all(1, b"\n");
 }
 

@@ -1,8 +1,8 @@
 -- A turn for each character of the line.
 use Prim.Native.Nat.{_-_}
 use borrow.Author.Needs.{needs}
-use Rattle.edges.proofs.script.read.Statement.{statement}
-use Rattle.edges.proofs.script.read.Tie as tie
+use Rattle.bench.proofs.script.read.Statement.{statement}
+use Rattle.bench.proofs.script.read.Tie as tie
 
 abbrev Inv-loop : tie.InvT-loop
 Inv-loop text at end numbers₀ i₀ numbers i = Unit {0}

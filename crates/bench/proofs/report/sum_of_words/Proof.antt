@@ -2,8 +2,8 @@
 use Prim.Native.Nat.{_-_}
 use lib.ListN.{length}
 use borrow.Author.Needs.{needs}
-use Rattle.edges.proofs.report.sum_of_words.Statement.{statement}
-use Rattle.edges.proofs.report.sum_of_words.Tie as tie
+use Rattle.bench.proofs.report.sum_of_words.Statement.{statement}
+use Rattle.bench.proofs.report.sum_of_words.Tie as tie
 
 abbrev Inv-loop : tie.InvT-loop
 Inv-loop words sum₀ i₀ sum i = Unit {0}

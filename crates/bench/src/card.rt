@@ -1,42 +1,57 @@
-// A card under test: the state, the history's numbers, and how many bytes of each buffer a call is lent.
+// A card under test: what the last call handed back, with what the script sets, and the buffers.
 ghost use Prim.Native.Nat.{_≤_, _<_};
 ghost use Rattle.io.specs.Counts.{Counts};
 use crate::script::Line;
+use chip8::Answer;
 use rules::Machine;
+use rules::Outcome;
 use rules::Timers;
 use rules::Trail;
 use rules::Wait;
 
-pub struct Card {
-    pub machine: Machine,
-    pub trail: Trail,
+// How many bytes of memory, of the picture and of the history a call is lent.
+pub struct Sizes {
     pub memory: usize,
     pub picture: usize,
     pub history: usize,
 }
 
-impl Card {
-    // A fresh state, and a history of three places.
-    pub fn fresh() -> Card {
-        Card {
-            machine: Machine::fresh(),
-            trail: Trail { next: 0, kept: 0 },
+impl Sizes {
+    // As they must be, with a history of three places.
+    pub fn right() -> Sizes {
+        Sizes {
             memory: Machine::MEMORY,
             picture: Machine::PICTURE,
             history: 3 * history::PLACE,
         }
     }
 
-    // The same buffers, with another state and other numbers.
-    pub fn with(self, machine: Machine, trail: Trail) -> Card {
-        Card {
-            machine,
-            trail,
-            memory: self.memory,
-            picture: self.picture,
-            history: self.history,
+    // After a line of the script.
+    pub fn after(self, line: Line) -> Sizes {
+        let letter = line.letter;
+        match letter {
+            b'#' => Sizes::right(),
+            b'l' => Sizes {
+                memory: line.size(1),
+                picture: line.size(2),
+                history: line.size(3),
+            },
+            _ => self,
         }
     }
+}
+
+// A card after nothing was refused.
+fn unrefused(machine: Machine, trail: Trail) -> Answer {
+    Answer {
+        outcome: Outcome::Done,
+        machine,
+        trail,
+    }
+}
+
+pub fn fresh() -> Answer {
+    unrefused(Machine::fresh(), Trail { next: 0, kept: 0 })
 }
 
 // How many bytes of a buffer are lent: as many as it has, at most.
@@ -177,31 +192,19 @@ fn with_state(m: Machine, line: Line) -> Machine {
     }
 }
 
-fn with_sizes(card: Card, line: Line) -> Card {
-    let machine = card.machine;
-    let trail = card.trail;
-    Card {
-        machine,
-        trail,
-        memory: line.size(1),
-        picture: line.size(2),
-        history: line.size(3),
-    }
+fn with_trail(machine: Machine, line: Line) -> Answer {
+    let trail = Trail {
+        next: line.size(1),
+        kept: line.size(2),
+    };
+    unrefused(machine, trail)
 }
 
-pub fn changed(card: Card, line: Line) -> Card {
-    let letter = line.letter;
+pub fn changed(card: Answer, line: Line) -> Answer {
     let machine = card.machine;
     let trail = card.trail;
-    match letter {
-        b'n' => card.with(
-            machine,
-            Trail {
-                next: line.size(1),
-                kept: line.size(2),
-            },
-        ),
-        b'l' => with_sizes(card, line),
-        _ => card.with(with_state(machine, line), trail),
+    if line.letter == b'n' {
+        return with_trail(machine, line);
     }
+    unrefused(with_state(machine, line), trail)
 }

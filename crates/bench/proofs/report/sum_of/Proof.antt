@@ -2,8 +2,8 @@
 use Prim.Native.Nat.{_-_}
 use lib.ListN.{length}
 use borrow.Author.Needs.{needs}
-use Rattle.edges.proofs.report.sum_of.Statement.{statement}
-use Rattle.edges.proofs.report.sum_of.Tie as tie
+use Rattle.bench.proofs.report.sum_of.Statement.{statement}
+use Rattle.bench.proofs.report.sum_of.Tie as tie
 
 abbrev Inv-loop : tie.InvT-loop
 Inv-loop bytes sum₀ i₀ sum i = Unit {0}

@@ -3,8 +3,8 @@ use mathlib.Core.Path.{_≡_}
 use Prim.Native.Nat.{_-_, _≤_}
 use lib.ListN.{length}
 use borrow.Author.Needs.{needs}
-use Rattle.edges.proofs.report.show.Statement.{statement}
-use Rattle.edges.proofs.report.show.Tie as tie
+use Rattle.bench.proofs.report.show.Statement.{statement}
+use Rattle.bench.proofs.report.show.Tie as tie
 
 abbrev Inv-loop : tie.InvT-loop
 Inv-loop name buffer end i₀ t6 t7 i = (end ≤ length buffer) × (length t6 ≡ 0) × (length t7 ≡ 1)

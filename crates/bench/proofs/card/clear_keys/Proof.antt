@@ -3,8 +3,8 @@ use mathlib.Core.Path.{_≡_}
 use Prim.Native.Nat.{_-_}
 use lib.ListN.{length}
 use borrow.Author.Needs.{needs}
-use Rattle.edges.proofs.card.clear_keys.Statement.{statement}
-use Rattle.edges.proofs.card.clear_keys.Tie as tie
+use Rattle.bench.proofs.card.clear_keys.Statement.{statement}
+use Rattle.bench.proofs.card.clear_keys.Tie as tie
 
 abbrev Inv-loop : tie.InvT-loop
 Inv-loop keys₀ k₀ keys k = (length keys ≡ length keys₀)

@@ -3,8 +3,8 @@ use mathlib.Core.Path.{_≡_}
 use Prim.Native.Nat.{_-_, _≤_, _<_}
 use lib.ListN.{length}
 use borrow.Author.Needs.{needs}
-use Rattle.edges.proofs.card.poke.Statement.{statement}
-use Rattle.edges.proofs.card.poke.Tie as tie
+use Rattle.bench.proofs.card.poke.Statement.{statement}
+use Rattle.bench.proofs.card.poke.Tie as tie
 
 abbrev Inv-loop : tie.InvT-loop
 Inv-loop buffer₀ line at k₀ buffer k = (2 ≤ k) × (at < 1048576) × (length buffer ≡ length buffer₀)

@@ -2,8 +2,8 @@
 use mathlib.Core.Path.{sym}
 use native.Mathlib.Omega.{arith}
 use lib.Seq.{length-take-le}
-use Rattle.edges.proofs.card.within_words.Statement.{statement}
-use Rattle.edges.proofs.card.within_words.Tie as tie
+use Rattle.bench.proofs.card.within_words.Statement.{statement}
+use Rattle.bench.proofs.card.within_words.Tie as tie
 
 returns : tie.Need-returns
 returns c = (omega arith, sym (length-take-le _ _ (omega arith)))

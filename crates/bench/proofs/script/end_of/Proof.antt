@@ -2,8 +2,8 @@
 use Prim.Native.Nat.{_-_, _≤_}
 use lib.ListN.{length}
 use borrow.Author.Needs.{needs}
-use Rattle.edges.proofs.script.end_of.Statement.{statement}
-use Rattle.edges.proofs.script.end_of.Tie as tie
+use Rattle.bench.proofs.script.end_of.Statement.{statement}
+use Rattle.bench.proofs.script.end_of.Tie as tie
 
 abbrev Inv-loop : tie.InvT-loop
 Inv-loop text at i₀ i = (at ≤ i) × (i ≤ length text)
