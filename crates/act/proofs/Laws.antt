@@ -2,13 +2,13 @@
 use mathlib.Core.Path.{_≡_}
 use Prim.Native.Nat.{ℕ, _+_, _≤_, _<_}
 use native.Mathlib.Omega.{arith}
-use lib.Dec.{ltb}
-use borrow.Author.Tests.{ltb-true}
+use lib.Dec.{leb, ltb}
+use borrow.Author.Tests.{leb-true, ltb-true}
 use Rattle.rules.specs.declared.Machine.{Machine}
 use Rattle.rules.specs.declared.Op.{Op}
 use Rattle.rules.specs.declared.Op.the-variants.{Call, Return, Draw, Decimal, Store, Fetch}
 use Rattle.rules.specs.State.{upTo}
-use Rattle.rules.specs.Step.{refusalOf, past}
+use Rattle.rules.specs.Step.{refusalOf, reach}
 use Rattle.rules.proofs.Choices.{passed}
 use Rattle.rules.proofs.Follow.{past-fits}
 
@@ -21,9 +21,9 @@ module _ (op : Op) (m : Machine) (allowed : refusalOf op m ≡ 0) where
   unfolding refusalOf
   return-entry e = ltb-true 0 (m .depth) ((passed (ltb 0 (m .depth)) 4 0 (rw e at allowed)) .0)
 
-  pub draw-reach : (x y n : ℕ) → op ≡ Draw x y n → past m n ≡ 0
+  pub draw-reach : (x y n : ℕ) → op ≡ Draw x y n → reach m n ≤ 4096
   unfolding refusalOf
-  draw-reach x y n e = rw e at allowed
+  draw-reach x y n e = leb-true (reach m n) 4096 ((passed (leb (reach m n) 4096) 5 0 (rw e at allowed)) .0)
 
   pub decimal-reach : (x : ℕ) → op ≡ Decimal x → m .i + 3 ≤ 4096
   unfolding refusalOf

@@ -7,6 +7,7 @@ use Rattle.rules.specs.declared.Machine.{Machine}
 use Rattle.rules.specs.declared.Op.{Op}
 use Rattle.rules.specs.State.{memorySize, pictureSize, stackSize}
 use Rattle.rules.specs.Step.{refusalOf}
+use Rattle.parts.specs.declared.Core.{Core}
 
 pub record Accepted (op : Op) (m : Machine) (mem pic : List ℕ) : Type 0 where
   pub near : m .pc ≤ memorySize - 2
@@ -16,7 +17,7 @@ pub record Accepted (op : Op) (m : Machine) (mem pic : List ℕ) : Type 0 where
   pub picture : length pic ≡ pictureSize
 
 -- the n bytes from I on are in memory
-pub record Within (n : ℕ) (m : Machine) (mem : List ℕ) : Type 0 where
-  pub near : m .pc ≤ memorySize - 2
-  pub within : m .i + n ≤ memorySize
+pub record Within (n : ℕ) (c : Core) (mem : List ℕ) : Type 0 where
+  pub near : c .pc ≤ memorySize - 2
+  pub within : c .i + n ≤ memorySize
   pub memory : length mem ≡ memorySize

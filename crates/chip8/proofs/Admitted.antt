@@ -19,7 +19,7 @@ use Rattle.rules.specs.World.{World, world, places, buffersFit, historyFits, tr
 use Rattle.rules.specs.Call.{step, stepped, stepRefusal, tick, ticked, tickRefusal, back, undone, lastRecord, backRefusal}
 use Rattle.rules.specs.Run.{unrefused}
 use Rattle.rules.proofs.Given.{Back, tests, given-refused, answered-done, both-passed, settled}
-use Rattle.chip8.specs.Inner.{Tickable}
+use Rattle.moves.specs.Inner.{Tickable}
 
 module _ (w : World) (r : Refusal) (e : number (Refused r) ≡ tests w true) where
   pub step-refused : (keys random : ℕ) → Back (step keys random w) (Refused r) w

@@ -1,7 +1,7 @@
 -- A run, entry by entry: what is still to be done from here gives the same answer.
 use mathlib.Core.Path.{_≡_, refl, sym, _∙_}
 use mathlib.Core.Bool.{true, _&&_, and-eq-true-iff}
-use mathlib.Core.List.{List, _∷_}
+use mathlib.Core.List.{List, [], _∷_}
 use Prim.Native.Nat.{ℕ, _+_, _≤_, _<_}
 use native.Mathlib.Numerals.{add-one}
 use native.Mathlib.Omega.{arith}
@@ -19,6 +19,7 @@ use Rattle.rules.specs.World.{World, Answer, world}
 use Rattle.rules.specs.Call.{step}
 use Rattle.rules.specs.Run.{Ran, tickedBy, runFrom, listsFit, run, runRefusal}
 use Rattle.rules.specs.Promise.{Gives, GivesRun}
+use Rattle.rules.proofs.Choices.{by-test}
 use Rattle.rules.proofs.Given.{tests, handed, refused-some}
 use Rattle.rules.proofs.Ready.{Ready, step-ready, ticks-ready}
 use Rattle.chip8.proofs.Ticks.{gives-world, world-gives}
@@ -40,6 +41,13 @@ lists-same first keys randoms e =
 -- what is left of a list is its next element and the rest
 pub drop-next : (l : List ℕ) (i : ℕ) → i < length l → drop i l ≡ getD l i 0 ∷ drop (i + 1) l
 drop-next l i h = rw add-one (drop-cons l i 0 h)
+
+-- a run of one entry without a tick answers what its step answers
+pub alone : (keys random : ℕ) (w : World) → (runFrom 0 (0 ∷ []) (keys ∷ []) (random ∷ []) w) .answer ≡ step keys random w
+unfolding runFrom
+alone keys random w =
+    let a = step keys random w in
+    by-test (λ (r : Ran). r .answer ≡ a) (a .refusal) 0 (λ z i. record { refusal = sym z i; world = a .world }) (λ ne. refl)
 
 -- after i entries
 pub record Running (ticks keys randoms : List ℕ) (w₀ w : World) (i : ℕ) : Type 0 where

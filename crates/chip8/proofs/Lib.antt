@@ -1,6 +1,4 @@
 -- What the functions of the library share in their proofs.
-pub mod Keep
-pub mod Stepped
 pub mod Undone
 pub mod Admitted
 pub mod Loaded

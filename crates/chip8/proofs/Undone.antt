@@ -20,7 +20,7 @@ use Rattle.rules.proofs.Ready.{Ready, ready-fits, ready-soundly}
 use Rattle.rules.proofs.Given.{Back, given-refused, answered-done}
 use Rattle.history.specs.declared.Restored.{Restored}
 use Rattle.history.specs.Restored.{restored}
-use Rattle.chip8.proofs.Keep.{lent-part}
+use Rattle.moves.proofs.Keep.{lent-part}
 
 -- ---- what was read of a record
 

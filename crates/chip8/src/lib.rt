@@ -1,9 +1,7 @@
 // The library: the calls that a dock makes. Each may be handed anything, ends, and gives what the rules define; a refused call
 // hands everything back as it came. A step is judged, then its record is kept, then it acts.
 mod loading;
-mod moving;
 mod playing;
-mod record;
 mod restoring;
 mod running;
 
@@ -86,7 +84,7 @@ pub fn step(
             trail,
         };
     };
-    moving::step(machine, trail, memory, picture, history, keys, random)
+    running::one_step(machine, trail, memory, picture, history, keys, random)
 }
 
 // Takes one clock tick. It is lent only the history: the promise holds beside any memory and picture.
@@ -104,7 +102,17 @@ pub fn tick(machine: Machine, trail: Trail, history: &mut [u8]) -> Answer
             trail,
         };
     };
-    moving::tick(machine, trail, history)
+    let v = machine.v;
+    let stack = machine.stack;
+    let moved = moves::tick(parts::core_of(machine), &v, &stack, trail, history);
+    let ticked = moved.outcome;
+    let core = moved.core;
+    let next_trail = moved.trail;
+    Answer {
+        outcome: ticked,
+        machine: parts::whole(core, v, stack),
+        trail: next_trail,
+    }
 }
 
 // Goes one action back.

@@ -1,5 +1,6 @@
 // A step back in a world that passed the tests 9 and 10.
 ghost use mathlib.Core.Path.{_≡_};
+ghost use Prim.Native.Nat.{_<_};
 ghost use lib.ListN.{length};
 ghost use Rattle.rules.specs.World.{world, places};
 ghost use Rattle.rules.specs.Record.{placeSize, memoryAt, pictureAt};
@@ -8,12 +9,19 @@ ghost use Rattle.rules.specs.Promise.{Gives};
 ghost use Rattle.rules.proofs.Undo.{Fits};
 ghost use Rattle.rules.proofs.Ready.{Ready};
 use crate::Answer;
-use crate::record;
 use rules::Change;
 use rules::Machine;
 use rules::Outcome;
 use rules::Refusal;
 use rules::Trail;
+
+// Next falls by one, 0 becoming R - 1.
+fn place_before(next: usize, places: usize) -> usize
+    requires { ⌜ next < places ⌝ }
+    ensures { λ r. ⌜ (r ≡ rules_call.placeBefore places next) × (r < places) ⌝ }
+{
+    if next == 0 { places - 1 } else { next - 1 }
+}
 
 // Puts the old bytes of a record back where they stood.
 fn put_back(change: Change, place: &[u8], memory: &mut [u8], picture: &mut [u8])
@@ -53,7 +61,7 @@ pub(crate) fn back(
             trail,
         };
     }
-    let last = record::place_before(trail.next, judge::places(history));
+    let last = place_before(trail.next, judge::places(history));
     let at = history::PLACE * last;
     let end = at + history::PLACE;
     let old = history::read(&history[at..end], machine);

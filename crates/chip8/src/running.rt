@@ -1,4 +1,6 @@
-// A run, entry by entry, of a world that passed the tests 9 and 10.
+// A run, entry by entry, of a world that passed the tests 9 and 10. The variables and the stack are two locals of the run, lent to each
+// step, so a step copies neither. A single step is a run of one entry: so the code of a step stands in one place, and the compiler puts
+// it into the loop.
 ghost use mathlib.Core.Path.{_≡_};
 ghost use mathlib.Core.Bool.{true, _&&_};
 ghost use mathlib.Core.List.{List};
@@ -9,10 +11,12 @@ ghost use Rattle.rules.specs.Call as rules_call;
 ghost use Rattle.rules.specs.Run.{tickedBy, runFrom, unrefused, listsFit};
 ghost use Rattle.rules.specs.Promise.{Gives, GivesRun};
 ghost use Rattle.rules.proofs.Ready.{Ready};
-ghost use Rattle.chip8.specs.Inner.{Tickable};
+ghost use Rattle.parts.specs.Whole.{whole};
+ghost use Rattle.moves.specs.Inner.{Tickable};
 use crate::Answer;
 use crate::Ran;
-use crate::moving;
+use moves::Moved;
+use parts::Core;
 use rules::Machine;
 use rules::Outcome;
 use rules::Trail;
@@ -25,33 +29,44 @@ pub(crate) fn lists_fit(a: usize, b: usize, c: usize) -> bool
 }
 
 // So many ticks.
-fn ticks_of(machine: Machine, trail: Trail, history: &mut [u8], count: u8) -> Answer
-    requires { ⌜ Tickable machine trail (now history) ⌝ }
+fn ticks_of(
+    c: Core,
+    v: &[u8; 16],
+    stack: &[u16; Machine::STACK],
+    trail: Trail,
+    history: &mut [u8],
+    count: u8,
+) -> Moved
+    requires { ⌜ Tickable (whole c (now v) (now stack)) trail (now history) ⌝ }
     ensures { λ r. ⌜
-        ((memory picture : List ℕ) → Gives (unrefused (tickedBy count (world machine trail memory picture (now (history .entry)))))
-        (r .outcome) (r .machine) (r .trail) memory picture (now (history .exit))) ⌝ }
+        ((memory picture : List ℕ) → Gives
+        (unrefused
+        (tickedBy count (world (whole c (now (v .entry)) (now (stack .entry))) trail memory picture (now (history .entry)))))
+        (r .outcome) (whole (r .core) (now (v .entry)) (now (stack .entry))) (r .trail) memory picture (now (history .exit))) ⌝ }
 {
-    let mut m = machine;
+    let mut c = c;
     let mut t = trail;
     let mut left = count;
     while 0 < left {
-        let answer = moving::tick(m, t, history);
-        let next_machine = answer.machine;
-        let next_trail = answer.trail;
-        m = next_machine;
+        let moved = moves::tick(c, v, stack, t, history);
+        let next_core = moved.core;
+        let next_trail = moved.trail;
+        c = next_core;
         t = next_trail;
         left -= 1;
     }
-    Answer {
+    Moved {
         outcome: Outcome::Done,
-        machine: m,
+        core: c,
         trail: t,
     }
 }
 
 // One entry: its ticks, then its step.
 fn entry(
-    machine: Machine,
+    c: Core,
+    v: &mut [u8; 16],
+    stack: &mut [u16; Machine::STACK],
     trail: Trail,
     memory: &mut [u8],
     picture: &mut [u8],
@@ -59,17 +74,19 @@ fn entry(
     ticks: u8,
     keys: u16,
     random: u8,
-) -> Answer
-    requires { ⌜ Ready (world machine trail (now memory) (now picture) (now history)) ⌝ }
+) -> Moved
+    requires { ⌜ Ready (world (whole c (now v) (now stack)) trail (now memory) (now picture) (now history)) ⌝ }
     ensures { λ r. ⌜ Gives
         (rules_call.step keys random
-        (tickedBy ticks (world machine trail (now (memory .entry)) (now (picture .entry)) (now (history .entry))))) (r .outcome)
-        (r .machine) (r .trail) (now (memory .exit)) (now (picture .exit)) (now (history .exit)) ⌝ }
+        (tickedBy ticks
+        (world (whole c (now (v .entry)) (now (stack .entry))) trail (now (memory .entry)) (now (picture .entry))
+        (now (history .entry))))) (r .outcome) (whole (r .core) (now (v .exit)) (now (stack .exit))) (r .trail)
+        (now (memory .exit)) (now (picture .exit)) (now (history .exit)) ⌝ }
 {
-    let ticked = ticks_of(machine, trail, history, ticks);
-    let m = ticked.machine;
+    let ticked = ticks_of(c, v, stack, trail, history, ticks);
+    let core = ticked.core;
     let t = ticked.trail;
-    moving::step(m, t, memory, picture, history, keys, random)
+    moves::step(core, v, stack, t, memory, picture, history, keys, random)
 }
 
 pub(crate) fn run(
@@ -89,12 +106,16 @@ pub(crate) fn run(
         (world machine trail (now (memory .entry)) (now (picture .entry)) (now (history .entry)))) (r .accepted) (r .outcome)
         (r .machine) (r .trail) (now (memory .exit)) (now (picture .exit)) (now (history .exit)) ⌝ }
 {
-    let mut m = machine;
+    let mut v = machine.v;
+    let mut stack = machine.stack;
+    let mut c = parts::core_of(machine);
     let mut t = trail;
     let mut i = 0;
     while i < ticks.len() {
-        let answer = entry(
-            m,
+        let moved = entry(
+            c,
+            &mut v,
+            &mut stack,
             t,
             memory,
             picture,
@@ -103,16 +124,16 @@ pub(crate) fn run(
             keys[i],
             randoms[i],
         );
-        let next_machine = answer.machine;
-        let next_trail = answer.trail;
-        m = next_machine;
+        let next_core = moved.core;
+        let next_trail = moved.trail;
+        c = next_core;
         t = next_trail;
-        let outcome = answer.outcome;
+        let outcome = moved.outcome;
         let Outcome::Done = outcome else {
             return Ran {
                 accepted: i,
                 outcome,
-                machine: m,
+                machine: parts::whole(c, v, stack),
                 trail: t,
             };
         };
@@ -121,7 +142,45 @@ pub(crate) fn run(
     Ran {
         accepted: i,
         outcome: Outcome::Done,
-        machine: m,
+        machine: parts::whole(c, v, stack),
         trail: t,
+    }
+}
+
+// A run of one entry without a tick.
+pub(crate) fn one_step(
+    machine: Machine,
+    trail: Trail,
+    memory: &mut [u8],
+    picture: &mut [u8],
+    history: &mut [u8],
+    keys: u16,
+    random: u8,
+) -> Answer
+    requires { ⌜ Ready (world machine trail (now memory) (now picture) (now history)) ⌝ }
+    ensures { λ r. ⌜ Gives
+        (rules_call.step keys random (world machine trail (now (memory .entry)) (now (picture .entry)) (now (history .entry))))
+        (r .outcome) (r .machine) (r .trail) (now (memory .exit)) (now (picture .exit)) (now (history .exit)) ⌝ }
+{
+    let ticks = [0];
+    let key_list = [keys];
+    let randoms = [random];
+    let ran = run(
+        machine,
+        trail,
+        memory,
+        picture,
+        history,
+        &ticks,
+        &key_list,
+        &randoms,
+    );
+    let outcome = ran.outcome;
+    let next_machine = ran.machine;
+    let next_trail = ran.trail;
+    Answer {
+        outcome,
+        machine: next_machine,
+        trail: next_trail,
     }
 }

@@ -1,15 +1,19 @@
 // A history's records, written and read back. The specs of `rules`, Record.antt, say what a record is.
 ghost use mathlib.Core.Path.{_≡_};
-ghost use mathlib.Core.List.{_++_};
-ghost use Prim.Native.Nat.{_+_, _-_, _*_, _≤_};
-ghost use lib.ListN.{length, take, replicate};
+ghost use mathlib.Core.List.{List, _++_};
+ghost use Prim.Native.Nat.{ℕ, _+_, _-_, _*_, _≤_};
+ghost use lib.Dec.{eqb};
+ghost use lib.ListN.{length, getD, take, replicate};
 ghost use Rattle.history.specs.Writable.{Writable};
 ghost use Rattle.history.specs.Restored.{restored};
+ghost use Rattle.rules.specs.Number.{pick};
 ghost use Rattle.rules.specs.Memory.{over, part};
 ghost use Rattle.rules.specs.State.{stackSize};
-ghost use Rattle.rules.specs.Record.{placeSize, atV, atDepth, mark, start, count, lastReturn, heldByte, fields, recordWith};
+ghost use Rattle.rules.specs.Record.{placeSize, atV, atDepth, mark, start, count, heldByte, fields, recordWith};
 ghost use Rattle.rules.specs.Record.{byteAt, marked, known, allowed, depthSound, keySound, damaged};
 ghost use Rattle.rules.specs.Record.{changeAt, waitAt, stackAt, machineAt};
+ghost use Rattle.parts.specs.Whole.{whole};
+use parts::Core;
 use rules::Change;
 use rules::Machine;
 use rules::Timers;
@@ -83,12 +87,12 @@ fn count_of(c: Change) -> u16
 }
 
 // 0 where nothing is on the stack.
-fn last_return(m: Machine) -> u16
-    requires { ⌜ m .depth ≤ stackSize ⌝ }
-    ensures { λ r. ⌜ r ≡ lastReturn m ⌝ }
+fn last_return(depth: u8, stack: &[u16; Machine::STACK]) -> u16
+    requires { ⌜ depth ≤ stackSize ⌝ }
+    ensures { λ r. ⌜ r ≡ pick (eqb depth 0) 0 (getD (now (stack .entry)) (depth - 1) 0) ⌝ }
 {
-    let depth = m.depth as usize;
-    if depth == 0 { 0 } else { m.stack[depth - 1] }
+    let above = depth as usize;
+    if above == 0 { 0 } else { stack[above - 1] }
 }
 
 fn held_byte(w: Wait) -> u8
@@ -101,24 +105,24 @@ fn held_byte(w: Wait) -> u8
 }
 
 // What lies between the registers and the old bytes.
-fn fields_of(m: Machine, c: Change) -> [u8; 14]
-    requires { ⌜ m .depth ≤ stackSize ⌝ }
-    ensures { λ r. ⌜ r ≡ fields m c ⌝ }
+fn fields_of(c: Core, stack: &[u16; Machine::STACK], change: Change) -> [u8; 14]
+    requires { ⌜ c .depth ≤ stackSize ⌝ }
+    ensures { λ r. ⌜ ((v : List ℕ) → r ≡ fields (whole c v (now (stack .entry))) change) ⌝ }
 {
-    let last = last_return(m);
-    let start = start_of(c);
-    let count = count_of(c);
-    let wait = m.wait;
+    let last = last_return(c.depth, stack);
+    let start = start_of(change);
+    let count = count_of(change);
+    let wait = c.wait;
     [
-        memory::high(m.i),
-        memory::low(m.i),
-        memory::high(m.pc),
-        memory::low(m.pc),
-        m.depth,
+        memory::high(c.i),
+        memory::low(c.i),
+        memory::high(c.pc),
+        memory::low(c.pc),
+        c.depth,
         memory::high(last),
         memory::low(last),
-        m.timers.delay,
-        m.timers.tone,
+        c.timers.delay,
+        c.timers.tone,
         held_byte(wait),
         memory::high(start),
         memory::low(start),
@@ -129,30 +133,47 @@ fn fields_of(m: Machine, c: Change) -> [u8; 14]
 
 // ---- writing
 
-// Fills a place, from its mark to its last byte.
-fn write(place: &mut [u8], m: Machine, c: Change, old: &[u8])
-    requires { ⌜ Writable m c (now old) ⌝ }
+// Fills a place, from its mark to its last byte. Zeros are laid first and the old bytes over them, so that the clearing has a fixed
+// length.
+fn write(
+    place: &mut [u8],
+    c: Core,
+    v: [u8; 16],
+    stack: &[u16; Machine::STACK],
+    change: Change,
+    old: &[u8],
+)
+    requires { ⌜ Writable (whole c v (now stack)) change (now old) ⌝ }
     requires { ⌜ length (now place) ≡ placeSize ⌝ }
-    ensures { λ _. ⌜ now (place .exit) ≡ recordWith m c (now (old .entry)) ⌝ }
+    ensures { λ _. ⌜ now (place .exit) ≡ recordWith (whole c v (now (stack .entry))) change (now (old .entry)) ⌝ }
 {
-    let mark = mark_of(c);
-    let v = m.v;
-    let fields = fields_of(m, c);
+    let mark = mark_of(change);
+    let fields = fields_of(c, stack, change);
     memory::lay(place, AT_MARK, &mark);
     memory::lay(place, AT_V, &v);
     memory::lay(place, AT_I, &fields);
+    memory::clear(place, AT_OLD);
     memory::lay(place, AT_OLD, old);
-    memory::clear(place, AT_OLD + old.len());
 }
 
-// Writes the record of a state and a change into the place `next` of a history. `old` are the bytes that are about to change.
-pub fn keep(history: &mut [u8], next: usize, m: Machine, c: Change, old: &[u8])
-    requires { ⌜ Writable m c (now old) ⌝ }
+// Writes the record of a machine and a change into the place `next` of a history. `old` are the bytes that are about to change. The
+// variables come by value: as a local of their own they can't lie where the record is written, so sixteen bytes are copied at once.
+pub fn keep(
+    history: &mut [u8],
+    next: usize,
+    c: Core,
+    v: [u8; 16],
+    stack: &[u16; Machine::STACK],
+    change: Change,
+    old: &[u8],
+)
+    requires { ⌜ Writable (whole c v (now stack)) change (now old) ⌝ }
     requires { ⌜ placeSize * next + placeSize ≤ length (now history) ⌝ }
-    ensures { λ _. ⌜ now (history .exit) ≡ over (now (history .entry)) (placeSize * next) (recordWith m c (now (old .entry))) placeSize ⌝ }
+    ensures { λ _. ⌜ now (history .exit) ≡ over (now (history .entry)) (placeSize * next)
+        (recordWith (whole c v (now (stack .entry))) change (now (old .entry))) placeSize ⌝ }
 {
     let at = PLACE * next;
-    write(&mut history[at..at + PLACE], m, c, old);
+    write(&mut history[at..at + PLACE], c, v, stack, change, old);
 }
 
 // ---- reading

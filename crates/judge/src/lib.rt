@@ -1,7 +1,8 @@
 // What is tested before anything is written: lengths, soundness, and what the instruction needs.
 ghost use mathlib.Core.Path.{_≡_};
 ghost use mathlib.Core.Bool.{_&&_};
-ghost use Prim.Native.Nat.{_≤_};
+ghost use mathlib.Core.List.{List};
+ghost use Prim.Native.Nat.{ℕ, _≤_};
 ghost use lib.ListN.{drop};
 ghost use Rattle.rules.specs.declared.Refusal.the-variants.{BufferLength, Unsound};
 ghost use Rattle.rules.specs.Number.{unless};
@@ -13,6 +14,8 @@ ghost use Rattle.rules.specs.World.{world};
 ghost use Rattle.rules.specs.Typed.{Below, TypedMachine};
 ghost use Rattle.rules.specs.declared.Outcome.the-variants.{Done};
 ghost use Rattle.rules.proofs.Ready.{Ready};
+ghost use Rattle.parts.specs.Whole.{whole};
+use parts::Core;
 use rules::Machine;
 use rules::Op;
 use rules::Outcome;
@@ -129,43 +132,43 @@ pub fn admitted(
 // ---- what the instruction needs
 
 // Whether the n bytes from I on are in memory.
-fn past(m: Machine, n: usize) -> Outcome
+fn past(c: Core, n: usize) -> Outcome
     requires { ⌜ n ≤ 256 ⌝ }
-    ensures { λ r. ⌜ number r ≡ rule.past m n ⌝ }
+    ensures { λ r. ⌜ ((v stack : List ℕ) → number r ≡ rule.past (whole c v stack) n) ⌝ }
 {
     if n == 0 {
         return Outcome::Done;
     }
-    if m.i as usize + n <= Machine::MEMORY {
+    if c.i as usize + n <= Machine::MEMORY {
         return Outcome::Done;
     }
     Outcome::Refused(Refusal::MemoryPastEnd)
 }
 
 // 2 or 3, then 4, 5 or 6.
-pub fn judged(op: Op, m: Machine) -> Outcome
-    ensures { λ r. ⌜ number r ≡ rule.refusalOf op m ⌝ }
+pub fn judged(op: Op, c: Core) -> Outcome
+    ensures { λ r. ⌜ ((v stack : List ℕ) → number r ≡ rule.refusalOf op (whole c v stack)) ⌝ }
 {
     match op {
         Op::Plain(_) => Outcome::Done,
         Op::AwaitKey(_) => Outcome::Done,
         Op::Call(_) => {
-            if (m.depth as usize) < Machine::STACK {
+            if (c.depth as usize) < Machine::STACK {
                 return Outcome::Done;
             }
             Outcome::Refused(Refusal::StackFull)
         }
         Op::Return => {
-            if 0 < m.depth {
+            if 0 < c.depth {
                 return Outcome::Done;
             }
             Outcome::Refused(Refusal::StackEmpty)
         }
         Op::Clear => Outcome::Done,
-        Op::Draw(_, _, n) => past(m, n as usize),
-        Op::Decimal(_) => past(m, 3),
-        Op::Store(x) => past(m, registers::up_to(x)),
-        Op::Fetch(x) => past(m, registers::up_to(x)),
+        Op::Draw(_, _, n) => past(c, n as usize),
+        Op::Decimal(_) => past(c, 3),
+        Op::Store(x) => past(c, registers::up_to(x)),
+        Op::Fetch(x) => past(c, registers::up_to(x)),
         Op::Unlisted => Outcome::Refused(Refusal::Unlisted),
         Op::MachineCode => Outcome::Refused(Refusal::MachineCode),
     }

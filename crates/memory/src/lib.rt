@@ -71,19 +71,17 @@ pub fn decimal(memory: &mut [u8], at: usize, n: u8)
 }
 
 // FX55: the first `count` registers.
-pub fn store(memory: &mut [u8], at: usize, v: [u8; 16], count: usize)
-    requires { ⌜ (count ≤ 16) × (at + count ≤ length (now memory)) ⌝ }
-    ensures { λ _. ⌜ now (memory .exit) ≡ over (now (memory .entry)) at (take count v) count ⌝ }
+pub fn store(memory: &mut [u8], at: usize, v: &[u8], count: usize)
+    requires { ⌜ (count ≤ length (now v)) × (at + count ≤ length (now memory)) ⌝ }
+    ensures { λ _. ⌜ now (memory .exit) ≡ over (now (memory .entry)) at (take count (now (v .entry))) count ⌝ }
 {
     lay(memory, at, &v[..count]);
 }
 
 // FX65: the first registers are the bytes, and the others stay.
-pub fn fetch(v: [u8; 16], bytes: &[u8]) -> [u8; 16]
+pub fn fetch(v: &mut [u8; 16], bytes: &[u8])
     requires { ⌜ length (now bytes) ≤ 16 ⌝ }
-    ensures { λ r. ⌜ r ≡ now (bytes .entry) ++ drop (length (now (bytes .entry))) v ⌝ }
+    ensures { λ _. ⌜ now (v .exit) ≡ now (bytes .entry) ++ drop (length (now (bytes .entry))) (now (v .entry)) ⌝ }
 {
-    let mut v = v;
-    lay(&mut v, 0, bytes);
-    v
+    lay(v, 0, bytes);
 }

@@ -1,10 +1,15 @@
-// The instructions that act on the state alone. Each function takes the machine by value and hands the new one back.
+// The instructions that act on the state alone. The variables and the stack are lent; the rest of the state is taken by value and
+// handed back. Each contract speaks of the whole machine, beside any stack or any variables that the function is not lent.
 ghost use mathlib.Core.Path.{_≡_};
-ghost use Prim.Native.Nat.{_≤_, _<_, _%_, _+_, _-_};
+ghost use mathlib.Core.List.{List};
+ghost use Prim.Native.Nat.{ℕ, _≤_, _<_, _%_, _+_, _-_};
+ghost use lib.ListN.{getD};
 ghost use Rattle.rules.specs.Number.{pick};
-ghost use Rattle.rules.specs.State.{reg, upTo, withReg, withPc, withI, withTimers, withWait};
+ghost use Rattle.rules.specs.State.{upTo, withReg, withPc, withI, withTimers, withWait};
 ghost use Rattle.rules.specs.Registers as state;
 ghost use Rattle.rules.specs.declared.Wait.the-variants.{Idle};
+ghost use Rattle.parts.specs.Whole.{whole};
+use parts::Core;
 use rules::Machine;
 use rules::Simple;
 use rules::Timers;
@@ -36,10 +41,10 @@ fn down(keys: u16, k: u8) -> bool
 // ---- a part of the machine read, and a part changed
 
 // VX, whose number is the low four bits of x.
-pub fn get(m: Machine, x: u8) -> u8
-    ensures { λ r. ⌜ r ≡ reg m x ⌝ }
+pub fn get(v: &[u8; 16], x: u8) -> u8
+    ensures { λ r. ⌜ r ≡ getD (now (v .entry)) (x % 16) 0 ⌝ }
 {
-    m.v[(x % 16) as usize]
+    v[(x % 16) as usize]
 }
 
 // How many registers V0 to VX are.
@@ -49,179 +54,192 @@ pub fn up_to(x: u8) -> usize
     (x % 16) as usize + 1
 }
 
-// The result goes to VX, and PC goes on.
-pub fn put(m: Machine, x: u8, b: u8) -> Machine
-    requires { ⌜ m .pc ≤ 4094 ⌝ }
-    ensures { λ r. ⌜ r ≡ state.onward (withReg x b m) ⌝ }
+fn jump(c: Core, a: u16) -> Core
+    ensures { λ r. ⌜ ((v stack : List ℕ) → whole r v stack ≡ withPc a (whole c v stack)) ⌝ }
 {
-    let mut m = m;
-    m.v[(x % 16) as usize] = b;
-    m.pc += 2;
-    m
-}
-
-// The flag is written after the result, so it wins where X is F.
-fn put_both(m: Machine, x: u8, b: u8, f: u8) -> Machine
-    requires { ⌜ m .pc ≤ 4094 ⌝ }
-    ensures { λ r. ⌜ r ≡ state.onward (withReg 0xF f (withReg x b m)) ⌝ }
-{
-    let mut m = m;
-    let at = (x % 16) as usize;
-    m.v[at] = b;
-    m.v[0xF] = f;
-    m.pc += 2;
-    m
-}
-
-fn jump(m: Machine, a: u16) -> Machine
-    ensures { λ r. ⌜ r ≡ withPc a m ⌝ }
-{
-    let mut m = m;
-    m.pc = a;
-    m
-}
-
-// PC grows by one number where the test holds, and else by the other.
-fn skip(m: Machine, test: bool, yes: u16, no: u16) -> Machine
-    requires { ⌜ (m .pc ≤ 4094) × (yes ≤ 4) × (no ≤ 4) ⌝ }
-    ensures { λ r. ⌜ r ≡ withPc (m .pc + pick test yes no) m ⌝ }
-{
-    let mut m = m;
-    if test {
-        m.pc += yes;
-    } else {
-        m.pc += no;
-    }
-    m
+    let mut c = c;
+    c.pc = a;
+    c
 }
 
 // PC goes past this instruction.
-pub fn onward(m: Machine) -> Machine
-    requires { ⌜ m .pc ≤ 4094 ⌝ }
-    ensures { λ r. ⌜ r ≡ state.onward m ⌝ }
+pub fn onward(c: Core) -> Core
+    requires { ⌜ c .pc ≤ 4094 ⌝ }
+    ensures { λ r. ⌜ ((v stack : List ℕ) → whole r v stack ≡ state.onward (whole c v stack)) ⌝ }
 {
-    let mut m = m;
-    m.pc += 2;
-    m
+    let mut c = c;
+    c.pc += 2;
+    c
+}
+
+// PC grows by one number where the test holds, and else by the other.
+fn skip(c: Core, test: bool, yes: u16, no: u16) -> Core
+    requires { ⌜ (c .pc ≤ 4094) × (yes ≤ 4) × (no ≤ 4) ⌝ }
+    ensures { λ r. ⌜ ((v stack : List ℕ) → whole r v stack ≡ withPc (c .pc + pick test yes no) (whole c v stack)) ⌝ }
+{
+    let mut c = c;
+    if test {
+        c.pc += yes;
+    } else {
+        c.pc += no;
+    }
+    c
+}
+
+// The result goes to VX, and PC goes on.
+pub fn put(c: Core, v: &mut [u8; 16], x: u8, b: u8) -> Core
+    requires { ⌜ c .pc ≤ 4094 ⌝ }
+    ensures { λ r. ⌜ ((stack : List ℕ) → whole r (now (v .exit)) stack ≡ state.onward (withReg x b (whole c (now (v .entry)) stack))) ⌝ }
+{
+    v[(x % 16) as usize] = b;
+    let mut c = c;
+    c.pc += 2;
+    c
+}
+
+// The flag is written after the result, so it wins where X is F.
+fn put_both(c: Core, v: &mut [u8; 16], x: u8, b: u8, f: u8) -> Core
+    requires { ⌜ c .pc ≤ 4094 ⌝ }
+    ensures { λ r. ⌜
+        ((stack : List ℕ) → whole r (now (v .exit)) stack ≡ state.onward
+        (withReg 0xF f (withReg x b (whole c (now (v .entry)) stack)))) ⌝ }
+{
+    v[(x % 16) as usize] = b;
+    v[0xF] = f;
+    let mut c = c;
+    c.pc += 2;
+    c
 }
 
 // I is set, and PC goes on.
-pub fn point(m: Machine, i: u16) -> Machine
-    requires { ⌜ m .pc ≤ 4094 ⌝ }
-    ensures { λ r. ⌜ r ≡ state.onward (withI i m) ⌝ }
+pub fn point(c: Core, i: u16) -> Core
+    requires { ⌜ c .pc ≤ 4094 ⌝ }
+    ensures { λ r. ⌜ ((v stack : List ℕ) → whole r v stack ≡ state.onward (withI i (whole c v stack))) ⌝ }
 {
-    let mut m = m;
-    m.i = i;
-    m.pc += 2;
-    m
+    let mut c = c;
+    c.i = i;
+    c.pc += 2;
+    c
 }
 
 // The timers are set, and PC goes on.
-fn set_timers(m: Machine, delay: u8, tone: u8) -> Machine
-    requires { ⌜ m .pc ≤ 4094 ⌝ }
-    ensures { λ r. ⌜ r ≡ state.onward (withTimers (record { delay = delay; tone = tone }) m) ⌝ }
+fn set_timers(c: Core, delay: u8, tone: u8) -> Core
+    requires { ⌜ c .pc ≤ 4094 ⌝ }
+    ensures { λ r. ⌜
+        ((v stack : List ℕ) → whole r v stack ≡ state.onward
+        (withTimers (record { delay = delay; tone = tone }) (whole c v stack))) ⌝ }
 {
-    let mut m = m;
+    let mut c = c;
     let t = Timers { delay, tone };
-    m.timers = t;
-    m.pc += 2;
-    m
+    c.timers = t;
+    c.pc += 2;
+    c
 }
 
-// A field that is an enum is not stored to, so the machine is written anew.
-fn with_wait(m: Machine, w: Wait) -> Machine
-    ensures { λ r. ⌜ r ≡ withWait w m ⌝ }
+// A field that is an enum is not stored to, so the core is written anew.
+fn with_wait(c: Core, w: Wait) -> Core
+    ensures { λ r. ⌜ ((v stack : List ℕ) → whole r v stack ≡ withWait w (whole c v stack)) ⌝ }
 {
-    let v = m.v;
-    let stack = m.stack;
-    let timers = m.timers;
-    Machine {
-        v,
-        i: m.i,
-        pc: m.pc,
-        stack,
-        depth: m.depth,
+    let timers = c.timers;
+    Core {
+        i: c.i,
+        pc: c.pc,
+        depth: c.depth,
         timers,
         wait: w,
     }
 }
 
 // Every instruction but FX0A leaves the wait so.
-pub fn idle(m: Machine) -> Machine
-    ensures { λ r. ⌜ r ≡ withWait Idle m ⌝ }
+pub fn idle(c: Core) -> Core
+    ensures { λ r. ⌜ ((v stack : List ℕ) → whole r v stack ≡ withWait Idle (whole c v stack)) ⌝ }
 {
-    with_wait(m, Wait::Idle)
+    with_wait(c, Wait::Idle)
 }
 
 // ---- the instructions
 
-pub fn simple(s: Simple, m: Machine, keys: u16, random: u8) -> Machine
-    requires { ⌜ m .pc ≤ 4094 ⌝ }
-    ensures { λ r. ⌜ r ≡ state.simple s keys random m ⌝ }
+pub fn simple(s: Simple, c: Core, v: &mut [u8; 16], keys: u16, random: u8) -> Core
+    requires { ⌜ c .pc ≤ 4094 ⌝ }
+    ensures { λ r. ⌜
+        ((stack : List ℕ) → whole r (now (v .exit)) stack ≡ state.simple s keys random (whole c (now (v .entry)) stack)) ⌝ }
 {
     match s {
-        Simple::Jump(a) => jump(m, a),
-        Simple::JumpFrom(a) => jump(m, a % 4096 + (get(m, 0) as u16)),
-        Simple::SkipEqual(x, kk) => skip(m, get(m, x) == kk, 4, 2),
-        Simple::SkipDiffers(x, kk) => skip(m, get(m, x) == kk, 2, 4),
-        Simple::SkipSame(x, y) => skip(m, get(m, x) == get(m, y), 4, 2),
-        Simple::SkipOther(x, y) => skip(m, get(m, x) == get(m, y), 2, 4),
-        Simple::SkipDown(x) => skip(m, down(keys, get(m, x) % 16), 4, 2),
-        Simple::SkipUp(x) => skip(m, down(keys, get(m, x) % 16), 2, 4),
-        Simple::Put(x, kk) => put(m, x, kk),
-        Simple::Add(x, kk) => put(m, x, std::num::wrapping_add_u8(get(m, x), kk)),
-        Simple::Chance(x, kk) => put(m, x, random & kk),
-        Simple::Copy(x, y) => put(m, x, get(m, y)),
-        Simple::Or(x, y) => put(m, x, get(m, x) | get(m, y)),
-        Simple::And(x, y) => put(m, x, get(m, x) & get(m, y)),
+        Simple::Jump(a) => jump(c, a),
+        Simple::JumpFrom(a) => jump(c, a % 4096 + (get(v, 0) as u16)),
+        Simple::SkipEqual(x, kk) => skip(c, get(v, x) == kk, 4, 2),
+        Simple::SkipDiffers(x, kk) => skip(c, get(v, x) == kk, 2, 4),
+        Simple::SkipSame(x, y) => skip(c, get(v, x) == get(v, y), 4, 2),
+        Simple::SkipOther(x, y) => skip(c, get(v, x) == get(v, y), 2, 4),
+        Simple::SkipDown(x) => skip(c, down(keys, get(v, x) % 16), 4, 2),
+        Simple::SkipUp(x) => skip(c, down(keys, get(v, x) % 16), 2, 4),
+        Simple::Put(x, kk) => put(c, v, x, kk),
+        Simple::Add(x, kk) => {
+            let sum = std::num::wrapping_add_u8(get(v, x), kk);
+            put(c, v, x, sum)
+        }
+        Simple::Chance(x, kk) => put(c, v, x, random & kk),
+        Simple::Copy(x, y) => {
+            let b = get(v, y);
+            put(c, v, x, b)
+        }
+        Simple::Or(x, y) => {
+            let b = get(v, x) | get(v, y);
+            put(c, v, x, b)
+        }
+        Simple::And(x, y) => {
+            let b = get(v, x) & get(v, y);
+            put(c, v, x, b)
+        }
         Simple::Plus(x, y) => {
-            let a = get(m, x);
-            let b = get(m, y);
+            let a = get(v, x);
+            let b = get(v, y);
             put_both(
-                m,
+                c,
+                v,
                 x,
                 std::num::wrapping_add_u8(a, b),
                 flag((a as u16) + (b as u16) > 255),
             )
         }
         Simple::Minus(x, y) => {
-            let a = get(m, x);
-            let b = get(m, y);
-            put_both(m, x, difference(a, b), flag(b <= a))
+            let a = get(v, x);
+            let b = get(v, y);
+            put_both(c, v, x, difference(a, b), flag(b <= a))
         }
-        Simple::Index(a) => point(m, a),
-        Simple::AddIndex(x) => point(m, std::num::wrapping_add_u16(m.i, get(m, x) as u16)),
-        Simple::Digit(x) => point(m, 5 * ((get(m, x) % 16) as u16)),
-        Simple::FromDelay(x) => put(m, x, m.timers.delay),
-        Simple::ToDelay(x) => set_timers(m, get(m, x), m.timers.tone),
-        Simple::ToTone(x) => set_timers(m, m.timers.delay, get(m, x)),
+        Simple::Index(a) => point(c, a),
+        Simple::AddIndex(x) => point(c, std::num::wrapping_add_u16(c.i, get(v, x) as u16)),
+        Simple::Digit(x) => point(c, 5 * ((get(v, x) % 16) as u16)),
+        Simple::FromDelay(x) => put(c, v, x, c.timers.delay),
+        Simple::ToDelay(x) => set_timers(c, get(v, x), c.timers.tone),
+        Simple::ToTone(x) => set_timers(c, c.timers.delay, get(v, x)),
     }
 }
 
 // 2MMM: the address behind this instruction is the last return address.
-pub fn called(m: Machine, a: u16) -> Machine
-    requires { ⌜ (m .pc ≤ 4094) × (m .depth < 12) ⌝ }
-    ensures { λ r. ⌜ r ≡ state.called a m ⌝ }
+pub fn called(c: Core, stack: &mut [u16; Machine::STACK], a: u16) -> Core
+    requires { ⌜ (c .pc ≤ 4094) × (c .depth < 12) ⌝ }
+    ensures { λ r. ⌜ ((v : List ℕ) → whole r v (now (stack .exit)) ≡ state.called a (whole c v (now (stack .entry)))) ⌝ }
 {
-    let mut m = m;
-    let at = m.depth as usize;
-    m.stack[at] = m.pc + 2;
-    m.depth += 1;
-    m.pc = a;
-    m
+    let at = c.depth as usize;
+    stack[at] = c.pc + 2;
+    let mut c = c;
+    c.depth += 1;
+    c.pc = a;
+    c
 }
 
 // 00EE: the last return address is taken, and its entry is 0 again.
-pub fn returned(m: Machine) -> Machine
-    requires { ⌜ (0 < m .depth) × (m .depth ≤ 12) ⌝ }
-    ensures { λ r. ⌜ r ≡ state.returned m ⌝ }
+pub fn returned(c: Core, stack: &mut [u16; Machine::STACK]) -> Core
+    requires { ⌜ (0 < c .depth) × (c .depth ≤ 12) ⌝ }
+    ensures { λ r. ⌜ ((v : List ℕ) → whole r v (now (stack .exit)) ≡ state.returned (whole c v (now (stack .entry)))) ⌝ }
 {
-    let mut m = m;
-    m.depth -= 1;
-    let at = m.depth as usize;
-    m.pc = m.stack[at];
-    m.stack[at] = 0;
-    m
+    let mut c = c;
+    c.depth -= 1;
+    let at = c.depth as usize;
+    c.pc = stack[at];
+    stack[at] = 0;
+    c
 }
 
 // The lowest key that is down, and 15 where none below it is.
@@ -239,23 +257,24 @@ fn lowest(keys: u16) -> u8
 }
 
 // FX0A: the lowest key that is down is held until it is up.
-pub fn awaited(x: u8, keys: u16, m: Machine) -> Machine
-    requires { ⌜ m .pc ≤ 4094 ⌝ }
-    ensures { λ r. ⌜ r ≡ state.awaited x keys m (m .wait) ⌝ }
+pub fn awaited(x: u8, keys: u16, c: Core, v: &mut [u8; 16]) -> Core
+    requires { ⌜ c .pc ≤ 4094 ⌝ }
+    ensures { λ r. ⌜
+        ((stack : List ℕ) → whole r (now (v .exit)) stack ≡ state.awaited x keys (whole c (now (v .entry)) stack) (c .wait)) ⌝ }
 {
-    let wait = m.wait;
+    let wait = c.wait;
     match wait {
         Wait::Idle => {
             if keys == 0 {
-                return m;
+                return c;
             }
-            with_wait(m, Wait::Held(lowest(keys)))
+            with_wait(c, Wait::Held(lowest(keys)))
         }
         Wait::Held(k) => {
             if down(keys, k) {
-                return m;
+                return c;
             }
-            idle(put(m, x, k))
+            idle(put(c, v, x, k))
         }
     }
 }

@@ -1,83 +1,94 @@
 -- Each arm is the definition's clause for the instruction that was matched: its callee's promise, and what it leaves alone.
-use mathlib.Core.Path.{refl}
+use mathlib.Core.Path.{refl, ap, _∙_}
 use borrow.Author.Needs.{needs}
+use Rattle.rules.specs.declared.Wait.the-variants.{Idle}
+use Rattle.rules.specs.State.{withWait}
 use Rattle.rules.specs.Step.{after}
 use Rattle.act.proofs.Laws.{call-room, return-entry, draw-reach, decimal-reach, store-reach, fetch-reach}
 use Rattle.act.proofs.act.Statement.{statement}
 use Rattle.act.proofs.act.Tie as tie
 
 called-requires : tie.Need-called-requires
-called-requires c κs = let s = c .before .before .before .before .before in (s .pre .near, call-room _ _ (s .pre .allowed) _ (c .before .op3 .given .1))
+called-requires c κs = let s = c .before .before .before .before .before .before in (s .pre .near, call-room _ _ (s .pre .allowed) _ (c .before .before .op3 .given .1))
 
 returned-requires : tie.Need-returned-requires
-returned-requires c κs = let s = c .before .before .before .before in (return-entry _ _ (s .pre .allowed) (c .enum-told .given .1), s .pre .shallow)
+returned-requires c κs = let s = c .before .before .before .before .before in (return-entry _ _ (s .pre .allowed) (c .before .enum-told .given .1), s .pre .shallow)
 
 pattern-requires : tie.Need-pattern-requires
-pattern-requires c κs = let s = c .before .before .before .before .before .before in (draw-reach _ _ (s .pre .allowed) _ _ _ (c .before .before .op4 .given .1), s .pre .memory)
+pattern-requires c κs = let s = c .before .before .before .before .before .before .before in (draw-reach _ _ (s .pre .allowed) _ _ _ (c .before .before .before .op4 .given .1), s .pre .memory)
 
 decimal-requires : tie.Need-decimal-requires
 decimal-requires c κs =
-    let s = c .before .before .before .before .before .before in
-    record { near = s .pre .near; within = decimal-reach _ _ (s .pre .allowed) _ (c .before .before .op5 .given .1); memory = s .pre .memory }
+    let s = c .before .before .before .before .before .before .before .before in
+    record { near = s .pre .near; within = decimal-reach _ _ (s .pre .allowed) _ (c .before .before .before .before .op5 .given .1); memory = s .pre .memory }
 
 store-requires : tie.Need-store-requires
 store-requires c κs =
-    let s = c .before .before .before .before .before .before in
-    record { near = s .pre .near; within = store-reach _ _ (s .pre .allowed) _ (c .before .before .op6 .given .1); memory = s .pre .memory }
+    let s = c .before .before .before .before .before .before .before in
+    record { near = s .pre .near; within = store-reach _ _ (s .pre .allowed) _ (c .before .before .before .op6 .given .1); memory = s .pre .memory }
 
 fetch-requires : tie.Need-fetch-requires
 fetch-requires c κs =
-    let s = c .before .before .before .before .before .before in
-    record { near = s .pre .near; within = fetch-reach _ _ (s .pre .allowed) _ (c .before .before .op7 .given .1); memory = s .pre .memory }
+    let s = c .before .before .before .before .before .before .before in
+    record { near = s .pre .near; within = fetch-reach _ _ (s .pre .allowed) _ (c .before .before .before .op7 .given .1); memory = s .pre .memory }
 
 returns : tie.Need-returns
 unfolding after
-returns c = rw (c .before .before .before .op .given .1) (record { machine = rw (c .idle .ensures, c .before .simple .ensures); memory = refl; picture = refl })
+returns c =
+    rw (c .before .before .before .before .op .given .1)
+    (record { machine = c .idle .ensures _ _ ∙ ap (withWait Idle) (c .before .simple .ensures _); memory = refl; picture = refl })
 
 returns-2 : tie.Need-returns-2
 unfolding after
-returns-2 c = rw (c .before .before .op2 .given .1) (record { machine = c .awaited .ensures; memory = refl; picture = refl })
+returns-2 c = rw (c .before .before .before .op2 .given .1) (record { machine = c .awaited .ensures _; memory = refl; picture = refl })
 
 returns-3 : tie.Need-returns-3
 unfolding after
-returns-3 c = rw (c .before .before .before .op3 .given .1) (record { machine = rw (c .idle2 .ensures, c .before .called .ensures); memory = refl; picture = refl })
+returns-3 c =
+    rw (c .before .before .before .before .op3 .given .1)
+    (record { machine = c .idle2 .ensures _ _ ∙ ap (withWait Idle) (c .before .called .ensures _); memory = refl; picture = refl })
 
 returns-4 : tie.Need-returns-4
 unfolding after
-returns-4 c = rw (c .before .before .enum-told .given .1) (record { machine = rw (c .idle3 .ensures, c .before .returned .ensures); memory = refl; picture = refl })
+returns-4 c =
+    rw (c .before .before .before .enum-told .given .1)
+    (record { machine = c .idle3 .ensures _ _ ∙ ap (withWait Idle) (c .before .returned .ensures _); memory = refl; picture = refl })
 
 returns-5 : tie.Need-returns-5
 unfolding after
 returns-5 c =
     rw (c .before .before .before .before .before .before .enum-told2 .given .1)
-    (record { machine = rw (c .idle4 .ensures, c .before .onward .ensures); memory = refl; picture = c .before .before .before .before .clear .ensures })
+    (record { machine = c .idle4 .ensures _ _ ∙ ap (withWait Idle) (c .before .onward .ensures _ _); memory = refl; picture = c .before .before .before .before .clear .ensures })
 
 returns-6 : tie.Need-returns-6
 unfolding after
 returns-6 c =
-    rw (c .before .before .before .before .before .before .before .op4 .given .1, ← c .before .before .before .before .pattern .ensures)
-    (record { machine = c .before .before .draw .ensures .1; memory = refl; picture = c .before .before .draw .ensures .0 })
+    rw (c .before .before .before .before .before .before .before .before .op4 .given .1, ← c .before .before .before .before .pattern .ensures)
+    (record { machine = c .before .before .draw .ensures .1 _; memory = refl; picture = c .before .before .draw .ensures .0 })
 
 returns-7 : tie.Need-returns-7
 unfolding after
-returns-7 c = rw (c .before .before .before .before .before .op5 .given .1) (record { machine = c .before .before .decimal .ensures .1; memory = c .before .before .decimal .ensures .0; picture = refl })
+returns-7 c =
+    rw (c .before .before .before .before .before .before .before .op5 .given .1, ← c .before .before .before .before .get .ensures)
+    (record { machine = c .before .before .decimal .ensures .1 _ _; memory = c .before .before .decimal .ensures .0; picture = refl })
 
 returns-8 : tie.Need-returns-8
 unfolding after
-returns-8 c = rw (c .before .before .before .before .before .op6 .given .1) (record { machine = c .before .before .store .ensures .1; memory = c .before .before .store .ensures .0; picture = refl })
+returns-8 c =
+    rw (c .before .before .before .before .before .before .op6 .given .1)
+    (record { machine = c .before .before .store .ensures .1 _ _; memory = c .before .before .store .ensures .0; picture = refl })
 
 returns-9 : tie.Need-returns-9
 unfolding after
-returns-9 c = rw (c .before .before .before .op7 .given .1) (record { machine = c .fetch .ensures; memory = refl; picture = refl })
+returns-9 c = rw (c .before .before .before .before .op7 .given .1) (record { machine = c .fetch .ensures _; memory = refl; picture = refl })
 
 returns-10 : tie.Need-returns-10
 unfolding after
-returns-10 c = rw (c .before .enum-told3 .given .1) (record { machine = c .idle5 .ensures; memory = refl; picture = refl })
+returns-10 c = rw (c .before .enum-told3 .given .1) (record { machine = c .idle5 .ensures _ _; memory = refl; picture = refl })
 
 returns-11 : tie.Need-returns-11
 unfolding after
-returns-11 c = rw (c .before .enum-told4 .given .1) (record { machine = c .idle6 .ensures; memory = refl; picture = refl })
+returns-11 c = rw (c .before .enum-told4 .given .1) (record { machine = c .idle6 .ensures _ _; memory = refl; picture = refl })
 
 pub act-spec : {M : Type 1} → statement M
-act-spec =
-    tie.close (tie.spec (search needs) (search needs) (search needs) (search needs) (search needs) (search needs) called-requires (search needs) (search needs) returned-requires (search needs) (search needs) (search needs) (search needs) (search needs) (search needs) pattern-requires (search needs) (search needs) decimal-requires (search needs) store-requires (search needs) fetch-requires (search needs) (search needs) (search needs) (search needs) returns returns-2 returns-3 returns-4 (search needs) returns-5 (search needs) (search needs) returns-6 (search needs) returns-7 (search needs) returns-8 (search needs) returns-9 returns-10 returns-11)
+act-spec = tie.close (tie.spec (search needs) (search needs) (search needs) (search needs) (search needs) (search needs) called-requires (search needs) (search needs) returned-requires (search needs) (search needs) (search needs) (search needs) (search needs) (search needs) pattern-requires (search needs) (search needs) (search needs) decimal-requires (search needs) store-requires (search needs) fetch-requires (search needs) (search needs) (search needs) (search needs) returns returns-2 returns-3 returns-4 (search needs) returns-5 (search needs) (search needs) returns-6 (search needs) returns-7 (search needs) returns-8 (search needs) returns-9 returns-10 returns-11)

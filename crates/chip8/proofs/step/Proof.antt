@@ -12,8 +12,10 @@ returns c =
     rw refused
     (step-refused (world (a .machine) (a .trail) (a .memory .now) (a .picture .now) (a .history .now)) _ (rw refused at (c .before .before .admitted .ensures .0)) _ _)
 
+one-step-requires : tie.Need-one-step-requires
+one-step-requires c κs = c .before .before .before .before .before .admitted .ensures .1 (c .before .before .before .enum-told .given .1)
+
 pub step-spec : {M : Type 1} → statement M
 step-spec =
-    tie.close
-    (tie.spec (search needs) (search needs) (search needs) (search needs) (search needs) (search needs) returns
-    (λ c κs. c .before .before .before .before .before .admitted .ensures .1 (c .before .before .before .enum-told .given .1)) (search needs) (search needs) (search needs) (λ c. c .before .before .before .before .before .before .step .ensures))
+    tie.close (tie.spec (search needs) (search needs) (search needs) (search needs) (search needs) (search needs) returns one-step-requires (search needs) (search needs) (search needs)
+    (λ c. c .before .before .before .before .before .before .one-step .ensures))

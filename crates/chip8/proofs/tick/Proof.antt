@@ -1,4 +1,5 @@
 -- Refused by the tests 9 or 10, or the tick of a state and a history that passed them.
+use mathlib.Core.Path.{_≡_}
 use borrow.Author.Needs.{needs}
 use Rattle.rules.specs.World.{world}
 use Rattle.chip8.proofs.Admitted.{tick-refused, tick-tickable, tick-done}
@@ -14,14 +15,14 @@ returns c memory picture =
 
 tick-requires : tie.Need-tick-requires
 tick-requires c κs =
-    let says = rw (c .before .before .before .before .before .before .history-fits .ensures, c .before .before .before .before .soundly .ensures .0) at (c .before .before .before .tested .ensures) in
-    tick-tickable _ _ _ _ says (c .before .enum-told .given .1)
+    let says = rw (c .before .before .before .before .before .before .before .before .before .before .before .history-fits .ensures, c .before .before .before .before .before .before .before .before .before .soundly .ensures .0) at (c .before .before .before .before .before .before .before .before .tested .ensures) in
+    rw (c .before .before .before .core-of .ensures) (tick-tickable _ _ _ _ says (c .before .before .before .before .before .before .enum-told .given .1))
 
 returns-2 : tie.Need-returns-2
 returns-2 c memory picture =
-    let says = rw (c .before .before .before .before .before .before .before .before .before .history-fits .ensures, c .before .before .before .before .before .before .before .soundly .ensures .0) at (c .before .before .before .before .before .before .tested .ensures) in
-    rw (tick-done _ _ _ _ says (c .before .before .before .before .enum-told .given .1) memory picture) (c .before .before .tick .ensures memory picture)
+    let says = rw (c .before .before .before .before .before .before .before .before .before .before .before .before .before .before .before .before .before .history-fits .ensures, c .before .before .before .before .before .before .before .before .before .before .before .before .before .before .before .soundly .ensures .0) at (c .before .before .before .before .before .before .before .before .before .before .before .before .before .before .tested .ensures) in
+    rw (c .whole .ensures, tick-done _ _ _ _ says (c .before .before .before .before .before .before .before .before .before .before .before .before .enum-told .given .1) memory picture)
+    (rw (c .before .before .before .before .before .before .before .before .before .core-of .ensures) at (c .before .before .before .before .before .tick .ensures memory picture))
 
 pub tick-spec : {M : Type 1} → statement M
-tick-spec =
-    tie.close (tie.spec (search needs) (search needs) (search needs) (search needs) (search needs) (search needs) returns tick-requires (search needs) returns-2)
+tick-spec = tie.close (tie.spec (search needs) (search needs) (search needs) (search needs) (search needs) (search needs) returns (search needs) tick-requires (search needs) (search needs) returns-2)

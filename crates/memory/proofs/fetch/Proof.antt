@@ -5,7 +5,7 @@ use Rattle.memory.proofs.fetch.Statement.{statement}
 use Rattle.memory.proofs.fetch.Tie as tie
 
 returns : tie.Need-returns
-returns c = rw zero-add at (c .before .lay .ensures)
+returns c = rw zero-add at (c .lay .ensures)
 
 pub fetch-spec : {M : Type 1} → statement M
-fetch-spec = tie.close (tie.spec (λ c. search needs) (λ c κs. search needs) returns)
+fetch-spec = tie.close (tie.spec (search needs) returns)

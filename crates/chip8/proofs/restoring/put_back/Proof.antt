@@ -2,7 +2,7 @@
 use mathlib.Core.Path.{refl}
 use native.Mathlib.Omega.{arith}
 use Rattle.rules.proofs.Parts.{part-length}
-use Rattle.chip8.proofs.Keep.{lent-part}
+use Rattle.moves.proofs.Keep.{lent-part}
 use borrow.Author.Needs.{needs}
 use Rattle.chip8.proofs.restoring.put_back.Statement.{statement}
 use Rattle.chip8.proofs.restoring.put_back.Tie as tie

@@ -2,26 +2,30 @@
 use borrow.Author.Needs.{needs}
 use Rattle.rules.specs.World.{World, world}
 use Rattle.rules.proofs.Ready.{ticks-ready}
-use Rattle.chip8.proofs.Stepped.{tickable}
+use Rattle.parts.specs.Whole.{whole}
+use Rattle.moves.proofs.Stepped.{tickable}
 use Rattle.chip8.proofs.Ticks.{gives-world}
 use Rattle.chip8.proofs.running.entry.Statement.{statement}
 use Rattle.chip8.proofs.running.entry.Tie as tie
 
 -- the world that is handed in
 abbrev given : tie.Start → World
-given s = let a = s .args in world (a .machine) (a .trail) (a .memory .now) (a .picture .now) (a .history .now)
+given s = let a = s .args in world (whole (a .c) (a .v .now) (a .stack .now)) (a .trail) (a .memory .now) (a .picture .now) (a .history .now)
+
+ticks-of-requires : tie.Need-ticks-of-requires
+ticks-of-requires c κs = let s = c .before .before .before .before .before .before in tickable (given s) (s .pre)
 
 step-requires : tie.Need-step-requires
 step-requires c κs =
-    let s = c .before .before .before .before .before .before .before .before .before .before .before .before in
-    let ticks = c .before .before .before .before .before .before .before .ticks-of .ensures (s .args .memory .now) (s .args .picture .now) in
+    let s = c .before .before .before .before .before .before .before .before .before .before .before .before .before .before .before .before in
+    let ticks = c .before .before .before .before .before .before .before .before .before .ticks-of .ensures (s .args .memory .now) (s .args .picture .now) in
     rw (gives-world _ _ _ _ _ _ _ ticks) (ticks-ready (s .args .ticks) (given s) (s .pre))
 
 returns : tie.Need-returns
 returns c =
-    let s = c .before .before .before .before .before .before .before .before .before .before .before .before .before .before .before .before .before .before .before in
-    let ticks = c .before .before .before .before .before .before .before .before .before .before .before .before .before .before .ticks-of .ensures (s .args .memory .now) (s .args .picture .now) in
+    let s = c .before .before .before .before .before .before .before .before .before .before .before .before .before .before .before .before .before .before .before .before .before .before .before in
+    let ticks = c .before .before .before .before .before .before .before .before .before .before .before .before .before .before .before .before .ticks-of .ensures (s .args .memory .now) (s .args .picture .now) in
     rw (gives-world _ _ _ _ _ _ _ ticks) at (c .before .before .before .before .before .before .step .ensures)
 
 pub entry-spec : {M : Type 1} → statement M
-entry-spec = tie.close (tie.spec (λ c κs. tickable (given (c .before .before .before .before)) (c .before .before .before .before .pre)) step-requires (search needs) (search needs) (search needs) returns)
+entry-spec = tie.close (tie.spec ticks-of-requires step-requires (search needs) (search needs) (search needs) returns)

@@ -1,8 +1,9 @@
 -- A step of a world that passed the tests 9 and 10: what it gives where it is refused, what its parts ask, and what they make together.
 use mathlib.Core.Path.{_≡_, refl, sym, ap, _∙_}
 use mathlib.Core.List.{List}
-use Prim.Native.Nat.{ℕ, _≤_, _<_}
+use Prim.Native.Nat.{ℕ, _+_, _*_, _≤_, _<_}
 use native.Mathlib.Omega.{arith}
+use lib.ListN.{length}
 use lib.Dec.{leb}
 use borrow.Author.Tests.{le-leb, lt-leb}
 use Rattle.rules.specs.declared.Machine.{Machine}
@@ -13,15 +14,19 @@ use Rattle.rules.specs.declared.Refusal.the-variants.{PcPastEnd}
 use Rattle.rules.specs.declared.Outcome.the-variants.{Done, Refused}
 use Rattle.rules.specs.Number.{unless}
 use Rattle.rules.specs.Refusal.{number}
+use Rattle.rules.specs.Record.{old}
 use Rattle.rules.specs.Step.{refusalOf, changeOf, after}
 use Rattle.rules.specs.World.{World, boardOf, places}
 use Rattle.rules.specs.Call.{opAt, step, stepped, stepRefusal, written, grown}
 use Rattle.rules.specs.Promise.{Gives}
 use Rattle.rules.proofs.Ready.{Ready, ready-fits, ready-soundly, stepped-follows}
+use Rattle.rules.proofs.Undo.{Fits}
 use Rattle.rules.proofs.Given.{Back, given-refused, answered-done}
 use Rattle.act.specs.Accepted.{Accepted}
 use Rattle.act.specs.Became.{Became}
-use Rattle.chip8.specs.Inner.{Tickable, Keepable}
+use Rattle.history.specs.Writable.{Writable}
+use Rattle.moves.specs.Inner.{Tickable}
+use Rattle.moves.proofs.Keep.{writable}
 
 module _ (w : World) (h : Ready w) where
   abbrev m : Machine
@@ -48,6 +53,9 @@ module _ (w : World) (h : Ready w) where
 
   -- ---- what its parts ask
 
+  pub place-inside : 288 * w .trail .next + 288 ≤ length (w .history)
+  place-inside = omega (arith, h .next)
+
   pub tickable : Tickable m (w .trail) (w .history)
   tickable =
       record {
@@ -60,14 +68,11 @@ module _ (w : World) (h : Ready w) where
     passes : stepRefusal w ≡ 0
     passes = near-left near ∙ rw e at allowed
 
-    pub keepable : Keepable (changeOf op m) m (w .trail) (w .memory) (w .picture) (w .history)
-    keepable =
-        record {
-          tickable = tickable;
-          fits = rw e ((stepped-follows w h 0 0 passes) .undoable .fits);
-          memory = h .good .memory .size;
-          picture = h .good .picture .size;
-        }
+    pub kept-fits : Fits (changeOf op m)
+    kept-fits = rw e ((stepped-follows w h 0 0 passes) .undoable .fits)
+
+    pub step-writable : Writable m (changeOf op m) (old (changeOf op m) (w .memory) (w .picture))
+    step-writable = writable (w .memory) (w .picture) (h .good .memory .size) (h .good .picture .size) m (changeOf op m) (h .good .machine .calls .most) kept-fits
 
     pub accepted : Accepted op m (w .memory) (w .picture)
     accepted =

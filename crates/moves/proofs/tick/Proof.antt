@@ -2,16 +2,16 @@
 use mathlib.Core.Path.{refl}
 use borrow.Author.Needs.{needs}
 use Rattle.rules.specs.Call.{ticked}
-use Rattle.chip8.proofs.moving.tick.Statement.{statement}
-use Rattle.chip8.proofs.moving.tick.Tie as tie
+use Rattle.moves.proofs.tick.Statement.{statement}
+use Rattle.moves.proofs.tick.Tie as tie
 
 returns : tie.Need-returns
 unfolding ticked
 returns c memory picture =
     record {
       says = refl;
-      machine = c .before .tick .ensures;
-      trail = rw (c .before .before .before .before .before .before .before .places .ensures) at (c .grown .ensures);
+      machine = c .before .tick .ensures _ _;
+      trail = rw (c .before .before .before .before .before .before .before .before .places .ensures) at (c .grown .ensures);
       memory = refl;
       picture = refl;
       history = c .before .before .before .before .keep .ensures;

@@ -1,0 +1,162 @@
+// A step and a tick of a world that passed the tests 9 and 10. A step is judged, then its record is kept, then it acts.
+ghost use mathlib.Core.Path.{_≡_};
+ghost use mathlib.Core.List.{List};
+ghost use Prim.Native.Nat.{ℕ, _+_, _≤_, _<_};
+ghost use lib.Dec.{eqb};
+ghost use lib.ListN.{length};
+ghost use Rattle.rules.specs.Number.{pick};
+ghost use Rattle.rules.specs.State.{memorySize, pictureSize};
+ghost use Rattle.rules.specs.Record as kept;
+ghost use Rattle.rules.specs.World.{world};
+ghost use Rattle.rules.specs.Call as rule;
+ghost use Rattle.rules.specs.Run.{unrefused};
+ghost use Rattle.rules.specs.Promise.{Gives};
+ghost use Rattle.rules.proofs.Ready.{Ready};
+ghost use Rattle.rules.proofs.Undo.{Fits};
+ghost use Rattle.parts.specs.Whole.{whole};
+ghost use Rattle.moves.specs.Inner.{InRange, Tickable};
+use parts::Core;
+use rules::Change;
+use rules::Machine;
+use rules::Outcome;
+use rules::Refusal;
+use rules::Trail;
+
+// What a move hands back beside what is lent: what came of it, the core, and the history's two numbers.
+pub struct Moved {
+    pub outcome: Outcome,
+    pub core: Core,
+    pub trail: Trail,
+}
+
+// ---- the trail
+
+// Next goes up by one, R becoming 0.
+fn next_place(next: usize, places: usize) -> usize
+    requires { ⌜ (next < places) × (places ≤ 227) ⌝ }
+    ensures { λ r. ⌜ r ≡ rule.nextPlace places next ⌝ }
+{
+    if next + 1 == places { 0 } else { next + 1 }
+}
+
+// Kept rises by one to at most R.
+fn one_more(kept: usize, places: usize) -> usize
+    requires { ⌜ (kept ≤ places) × (places ≤ 227) ⌝ }
+    ensures { λ r. ⌜ r ≡ pick (eqb kept places) places (kept + 1) ⌝ }
+{
+    if kept == places { places } else { kept + 1 }
+}
+
+fn grown(t: Trail, places: usize) -> Trail
+    requires { ⌜ InRange t places ⌝ }
+    ensures { λ r. ⌜ r ≡ rule.grown places t ⌝ }
+{
+    Trail {
+        next: next_place(t.next, places),
+        kept: one_more(t.kept, places),
+    }
+}
+
+// ---- the moves
+
+// The bytes that are about to change.
+fn old_of<'a>(change: Change, memory: &'a [u8], picture: &'a [u8]) -> &'a [u8]
+    requires { ⌜ Fits change × (length (now memory) ≡ memorySize) × (length (now picture) ≡ pictureSize) ⌝ }
+    ensures { λ r. ⌜ now r ≡ kept.old change (now (memory .entry)) (now (picture .entry)) ⌝ }
+{
+    match change {
+        Change::Nothing => &memory[0..0],
+        Change::InMemory(start, count) => {
+            let at = start as usize;
+            let end = at + count as usize;
+            &memory[at..end]
+        }
+        Change::InPicture(start, count) => {
+            let at = start as usize;
+            let end = at + count as usize;
+            &picture[at..end]
+        }
+    }
+}
+
+// Judges the step, keeps its record, and acts.
+pub fn step(
+    c: Core,
+    v: &mut [u8; 16],
+    stack: &mut [u16; Machine::STACK],
+    trail: Trail,
+    memory: &mut [u8],
+    picture: &mut [u8],
+    history: &mut [u8],
+    keys: u16,
+    random: u8,
+) -> Moved
+    requires { ⌜ Ready (world (whole c (now v) (now stack)) trail (now memory) (now picture) (now history)) ⌝ }
+    ensures { λ r. ⌜ Gives
+        (rule.step keys random
+        (world (whole c (now (v .entry)) (now (stack .entry))) trail (now (memory .entry)) (now (picture .entry))
+        (now (history .entry)))) (r .outcome) (whole (r .core) (now (v .exit)) (now (stack .exit))) (r .trail)
+        (now (memory .exit)) (now (picture .exit)) (now (history .exit)) ⌝ }
+{
+    let at = c.pc as usize;
+    if Machine::MEMORY - 2 < at {
+        return Moved {
+            outcome: Outcome::Refused(Refusal::PcPastEnd),
+            core: c,
+            trail,
+        };
+    }
+    let op = decode::decode(memory[at], memory[at + 1]);
+    let outcome = judge::judged(op, c);
+    let Outcome::Done = outcome else {
+        return Moved {
+            outcome,
+            core: c,
+            trail,
+        };
+    };
+    let places = judge::places(history);
+    let change = act::change_of(op, c, v);
+    let next = trail.next;
+    history::keep(
+        history,
+        next,
+        c,
+        *v,
+        stack,
+        change,
+        old_of(change, memory, picture),
+    );
+    let core = act::act(op, c, v, stack, memory, picture, keys, random);
+    Moved {
+        outcome: Outcome::Done,
+        core,
+        trail: grown(trail, places),
+    }
+}
+
+// Keeps the record of a tick, and lowers the timers. It is lent only the history: the promise holds beside any memory and picture.
+pub fn tick(
+    c: Core,
+    v: &[u8; 16],
+    stack: &[u16; Machine::STACK],
+    trail: Trail,
+    history: &mut [u8],
+) -> Moved
+    requires { ⌜ Tickable (whole c (now v) (now stack)) trail (now history) ⌝ }
+    ensures { λ r. ⌜
+        ((memory picture : List ℕ) → Gives
+        (unrefused
+        (rule.ticked
+        (world (whole c (now (v .entry)) (now (stack .entry))) trail memory picture (now (history .entry))))) (r .outcome)
+        (whole (r .core) (now (v .entry)) (now (stack .entry))) (r .trail) memory picture (now (history .exit))) ⌝ }
+{
+    let places = judge::places(history);
+    let next = trail.next;
+    history::keep(history, next, c, *v, stack, Change::Nothing, b"");
+    Moved {
+        outcome: Outcome::Done,
+        core: clock::tick(c),
+        trail: grown(trail, places),
+    }
+}

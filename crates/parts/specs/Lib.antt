@@ -1,0 +1,2 @@
+-- The machine that the parts are of.
+pub mod Whole

@@ -1,0 +1,48 @@
+// A machine in parts. The variables and the stack are arrays that are lent, so that no step copies them; the rest is small, and goes by
+// value.
+ghost use mathlib.Core.Path.{_≡_};
+ghost use mathlib.Core.List.{List};
+ghost use Prim.Native.Nat.{ℕ};
+ghost use Rattle.parts.specs.Whole as spec;
+use rules::Machine;
+use rules::Timers;
+use rules::Wait;
+
+// What a machine has besides its variables and its stack.
+pub struct Core {
+    pub i: u16,
+    pub pc: u16,
+    pub depth: u8,
+    pub timers: Timers,
+    pub wait: Wait,
+}
+
+pub fn core_of(m: Machine) -> Core
+    ensures { λ r. ⌜ spec.whole r (m .v) (m .stack) ≡ m ⌝ }
+{
+    let timers = m.timers;
+    let wait = m.wait;
+    Core {
+        i: m.i,
+        pc: m.pc,
+        depth: m.depth,
+        timers,
+        wait,
+    }
+}
+
+pub fn whole(c: Core, v: [u8; 16], stack: [u16; Machine::STACK]) -> Machine
+    ensures { λ r. ⌜ r ≡ spec.whole c v stack ⌝ }
+{
+    let timers = c.timers;
+    let wait = c.wait;
+    Machine {
+        v,
+        i: c.i,
+        pc: c.pc,
+        stack,
+        depth: c.depth,
+        timers,
+        wait,
+    }
+}
