@@ -133,44 +133,51 @@ fn fields_of(c: Core, stack: &[u16; Machine::STACK], change: Change) -> [u8; 14]
 
 // ---- writing
 
-// Fills a place, from its mark to its last byte. Zeros are laid first and the old bytes over them, so that the clearing has a fixed
-// length.
+// The variables. They come by value, so that they can't lie where the record is written, and sixteen bytes are copied at once.
+fn lay_variables(place: &mut [u8], v: [u8; 16])
+    requires { ⌜ length (now place) ≡ placeSize ⌝ }
+    ensures { λ _. ⌜ now (place .exit) ≡ over (now (place .entry)) atV v 16 ⌝ }
+{
+    memory::lay(place, AT_V, &v);
+}
+
+// Fills a place. Zeros are laid first and the old bytes over them, so that the clearing has a fixed length. The variables come last:
+// to read sixteen bytes at once must wait for a byte among them that was just written.
 fn write(
     place: &mut [u8],
     c: Core,
-    v: [u8; 16],
+    v: &[u8; 16],
     stack: &[u16; Machine::STACK],
     change: Change,
     old: &[u8],
 )
-    requires { ⌜ Writable (whole c v (now stack)) change (now old) ⌝ }
+    requires { ⌜ Writable (whole c (now v) (now stack)) change (now old) ⌝ }
     requires { ⌜ length (now place) ≡ placeSize ⌝ }
-    ensures { λ _. ⌜ now (place .exit) ≡ recordWith (whole c v (now (stack .entry))) change (now (old .entry)) ⌝ }
+    ensures { λ _. ⌜ now (place .exit) ≡ recordWith (whole c (now (v .entry)) (now (stack .entry))) change (now (old .entry)) ⌝ }
 {
     let mark = mark_of(change);
     let fields = fields_of(c, stack, change);
     memory::lay(place, AT_MARK, &mark);
-    memory::lay(place, AT_V, &v);
     memory::lay(place, AT_I, &fields);
     memory::clear(place, AT_OLD);
     memory::lay(place, AT_OLD, old);
+    lay_variables(place, *v);
 }
 
-// Writes the record of a machine and a change into the place `next` of a history. `old` are the bytes that are about to change. The
-// variables come by value: as a local of their own they can't lie where the record is written, so sixteen bytes are copied at once.
+// Writes the record of a machine and a change into the place `next` of a history. `old` are the bytes that are about to change.
 pub fn keep(
     history: &mut [u8],
     next: usize,
     c: Core,
-    v: [u8; 16],
+    v: &[u8; 16],
     stack: &[u16; Machine::STACK],
     change: Change,
     old: &[u8],
 )
-    requires { ⌜ Writable (whole c v (now stack)) change (now old) ⌝ }
+    requires { ⌜ Writable (whole c (now v) (now stack)) change (now old) ⌝ }
     requires { ⌜ placeSize * next + placeSize ≤ length (now history) ⌝ }
     ensures { λ _. ⌜ now (history .exit) ≡ over (now (history .entry)) (placeSize * next)
-        (recordWith (whole c v (now (stack .entry))) change (now (old .entry))) placeSize ⌝ }
+        (recordWith (whole c (now (v .entry)) (now (stack .entry))) change (now (old .entry))) placeSize ⌝ }
 {
     let at = PLACE * next;
     write(&mut history[at..at + PLACE], c, v, stack, change, old);

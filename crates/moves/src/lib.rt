@@ -122,7 +122,7 @@ pub fn step(
         history,
         next,
         c,
-        *v,
+        v,
         stack,
         change,
         old_of(change, memory, picture),
@@ -153,7 +153,7 @@ pub fn tick(
 {
     let places = judge::places(history);
     let next = trail.next;
-    history::keep(history, next, c, *v, stack, Change::Nothing, b"");
+    history::keep(history, next, c, v, stack, Change::Nothing, b"");
     Moved {
         outcome: Outcome::Done,
         core: clock::tick(c),

@@ -104,7 +104,8 @@ fn put_both(c: Core, v: &mut [u8; 16], x: u8, b: u8, f: u8) -> Core
         ((stack : List ℕ) → whole r (now (v .exit)) stack ≡ state.onward
         (withReg 0xF f (withReg x b (whole c (now (v .entry)) stack)))) ⌝ }
 {
-    v[(x % 16) as usize] = b;
+    let at = (x % 16) as usize;
+    v[at] = b;
     v[0xF] = f;
     let mut c = c;
     c.pc += 2;

@@ -11,7 +11,7 @@ returns c memory picture =
     record {
       says = refl;
       machine = c .before .tick .ensures _ _;
-      trail = rw (c .before .before .before .before .before .before .before .before .places .ensures) at (c .grown .ensures);
+      trail = rw (c .before .before .before .before .before .before .before .places .ensures) at (c .grown .ensures);
       memory = refl;
       picture = refl;
       history = c .before .before .before .before .keep .ensures;

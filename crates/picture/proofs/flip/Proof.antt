@@ -1,4 +1,5 @@
 -- The two bytes turned over as one number are each turned over.
+use mathlib.Core.Path.{refl}
 use Prim.Native.Nat.{_+_}
 use native.Mathlib.Omega.{arith}
 use lib.ListN.{length-set}
@@ -8,16 +9,12 @@ use Rattle.picture.proofs.flip.Statement.{statement}
 use Rattle.picture.proofs.flip.Tie as tie
 
 returns : tie.Need-returns
-returns c =
-    let old = c .before .before .before in
-    let known = old .before .before in
+returns c n =
+    let known = c .before .before .before .before in
     let args = known .before .args in
-    let t =
-    word-turned (args .picture .now) (args .k) (args .mask) (args .dark)
+    word-turned (args .picture .now) (args .k) (args .mask) n
     (omega (arith, known .slice-known .given (args .k))) (omega (arith, known .slice-known .given (args .k + 1))) (omega arith)
-    (old .word-at .ensures) (c .before .before .high .ensures) (c .before .low .ensures) (c .count .ensures .0) in
-    (t .0, (t .1, omega arith))
+    (c .before .before .word-at .ensures) (c .before .high .ensures) (c .low .ensures)
 
 pub flip-spec : {M : Type 1} → statement M
-flip-spec =
-    tie.close (tie.spec (search needs) (search needs) (search needs) (search needs) (search needs) (λ c. simp length-set (omega arith)) (search needs) (search needs) (search needs) returns)
+flip-spec = tie.close (tie.spec (search needs) (search needs) (search needs) (search needs) (search needs) (λ c. simp length-set (omega arith)) (search needs) returns)
