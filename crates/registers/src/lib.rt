@@ -185,12 +185,12 @@ pub fn simple(s: Simple, c: Core, v: &mut [u8; 16], keys: u16, random: u8) -> Co
             put(c, v, x, b)
         }
         Simple::Or(x, y) => {
-            let b = get(v, x) | get(v, y);
-            put(c, v, x, b)
+            let either = get(v, x) | get(v, y);
+            put_both(c, v, x, either, 0)
         }
         Simple::And(x, y) => {
-            let b = get(v, x) & get(v, y);
-            put(c, v, x, b)
+            let both = get(v, x) & get(v, y);
+            put_both(c, v, x, both, 0)
         }
         Simple::Plus(x, y) => {
             let a = get(v, x);

@@ -193,8 +193,8 @@ module _ (m : Machine) (g : GoodMachine m) (near : m .pc ≤ 4094) where
   simple-reached (Add x kk) keys random f = put-reg x _ (omega arith)
   simple-reached (Chance x kk) keys random f = put-reg x _ (omega (arith, and-le-r random kk))
   simple-reached (Copy x y) keys random f = put-reg x _ (reg-below y)
-  simple-reached (Or x y) keys random f = put-reg x _ (or-lt 8 (reg m x) (reg m y) (reg-below x) (reg-below y))
-  simple-reached (And x y) keys random f = put-reg x _ (and-lt 8 (reg m x) (reg m y) (reg-below x) (reg-below y))
+  simple-reached (Or x y) keys random f = put-flag x _ false (or-lt 8 (reg m x) (reg m y) (reg-below x) (reg-below y))
+  simple-reached (And x y) keys random f = put-flag x _ false (and-lt 8 (reg m x) (reg m y) (reg-below x) (reg-below y))
   simple-reached (Plus x y) keys random f = put-flag x _ (ltb 255 (reg m x + reg m y)) (omega arith)
   simple-reached (Minus x y) keys random f = put-flag x _ (leb (reg m y) (reg m x)) (omega arith)
   simple-reached (Index a) keys random f = keep-onward (keep-i (keep g) _ (omega arith)) near

@@ -1,5 +1,5 @@
 -- What each instruction does to the state, as far as memory and picture play no part.
-use mathlib.Core.Bool.{Bool}
+use mathlib.Core.Bool.{Bool, false}
 use Prim.Native.Nat.{ℕ, zero, suc, _+_, _-_, _*_, _%_}
 use lib.ListN.{getD, set}
 use lib.Dec.{eqb, ltb, leb}
@@ -58,8 +58,8 @@ simple (Put x kk) keys random m = onward (withReg x kk m)
 simple (Add x kk) keys random m = onward (withReg x ((reg m x + kk) % 256) m)
 simple (Chance x kk) keys random m = onward (withReg x (bitAnd random kk) m)
 simple (Copy x y) keys random m = onward (withReg x (reg m y) m)
-simple (Or x y) keys random m = onward (withReg x (bitOr (reg m x) (reg m y)) m)
-simple (And x y) keys random m = onward (withReg x (bitAnd (reg m x) (reg m y)) m)
+simple (Or x y) keys random m = onward (flagged x (bitOr (reg m x) (reg m y)) false m)
+simple (And x y) keys random m = onward (flagged x (bitAnd (reg m x) (reg m y)) false m)
 simple (Plus x y) keys random m = onward (flagged x ((reg m x + reg m y) % 256) (ltb 255 (reg m x + reg m y)) m)
 simple (Minus x y) keys random m = onward (flagged x ((reg m x + 256 - reg m y) % 256) (leb (reg m y) (reg m x)) m)
 simple (Index a) keys random m = onward (withI a m)
