@@ -1,7 +1,7 @@
 // What an accepted instruction changes, and what it does. Nothing can fail here any more.
 ghost use mathlib.Core.Path.{_≡_};
 ghost use mathlib.Core.List.{List, _++_};
-ghost use Prim.Native.Nat.{ℕ, _+_, _%_, _≤_, _<_};
+ghost use Prim.Native.Nat.{ℕ, _+_, _*_, _%_, _≤_, _<_};
 ghost use lib.Dec.{eqb, ltb};
 ghost use lib.ListN.{length, getD, take, drop};
 ghost use Rattle.rules.specs.declared.Wait.the-variants.{Idle};
@@ -11,13 +11,21 @@ ghost use Rattle.rules.specs.Registers.{onward};
 ghost use Rattle.rules.specs.Memory.{part, over, digitsOf};
 ghost use Rattle.rules.specs.Picture.{drawn, darkened};
 ghost use Rattle.rules.specs.Step.{after, rowsChange, changeOf};
+ghost use Rattle.rules.specs.Dark.{darkOf};
 ghost use Rattle.parts.specs.Whole.{whole};
 ghost use Rattle.act.specs.Accepted.{Accepted, Within};
 ghost use Rattle.act.specs.Became.{Became};
+ghost use Rattle.act.specs.Drawn.{patternBytes};
 use parts::Core;
 use rules::Change;
 use rules::Machine;
 use rules::Op;
+
+// What an instruction hands back: the core, and how many lit spots went dark.
+pub struct Acted {
+    pub core: Core,
+    pub dark: usize,
+}
 
 // ---- where the change lies
 
@@ -78,23 +86,28 @@ fn pattern(i: u16, n: u8, memory: &[u8]) -> &[u8]
 }
 
 // DXYN. The drawing is given the pattern alone.
-fn draw(c: Core, v: &mut [u8; 16], x: u8, y: u8, pattern: &[u8], picture: &mut [u8]) -> Core
+fn draw(c: Core, v: &mut [u8; 16], x: u8, y: u8, pattern: &[u8], picture: &mut [u8]) -> Acted
     requires { ⌜ (c .pc ≤ 4094) × (length (now picture) ≡ pictureSize) ⌝ }
     ensures { λ r. ⌜ now (picture .exit) ≡ drawn (now (pattern .entry)) (getD (now (v .entry)) (x % 16) 0 % 64)
         (getD (now (v .entry)) (y % 16) 0 % 32) (now (picture .entry)) ⌝ }
     ensures { λ r. ⌜
-        ((stack : List ℕ) → whole r (now (v .exit)) stack ≡ withWait Idle
+        ((stack : List ℕ) → whole (r .core) (now (v .exit)) stack ≡ withWait Idle
         (onward
         (withReg 0xF
         (pick
         (ltb 0
         (darkened (now (pattern .entry)) (getD (now (v .entry)) (x % 16) 0 % 64) (getD (now (v .entry)) (y % 16) 0 % 32)
         (now (picture .entry)))) 1 0) (whole c (now (v .entry)) stack)))) ⌝ }
+    ensures { λ r. ⌜ (r .dark ≡ darkened (now (pattern .entry)) (getD (now (v .entry)) (x % 16) 0 % 64)
+        (getD (now (v .entry)) (y % 16) 0 % 32) (now (picture .entry))) × (r .dark ≤ 8 * length (now (pattern .entry))) ⌝ }
 {
     let column = (registers::get(v, x) % 64) as usize;
     let row = row_of(v, y) as usize;
     let dark = picture::draw(picture, pattern, column, row);
-    registers::idle(registers::put(c, v, 0xF, registers::flag(0 < dark)))
+    Acted {
+        core: registers::idle(registers::put(c, v, 0xF, registers::flag(0 < dark))),
+        dark,
+    }
 }
 
 // FX33
@@ -133,6 +146,13 @@ fn fetch(c: Core, v: &mut [u8; 16], x: u8, memory: &[u8]) -> Core
     registers::idle(registers::point(c, c.i + count as u16))
 }
 
+// An instruction that draws nothing.
+fn undrawn(c: Core) -> Acted
+    ensures { λ r. ⌜ (r .core ≡ c) × (r .dark ≡ 0) ⌝ }
+{
+    Acted { core: c, dark: 0 }
+}
+
 // The instruction, after it was judged and its record kept.
 pub fn act(
     op: Op,
@@ -143,26 +163,28 @@ pub fn act(
     picture: &mut [u8],
     keys: u16,
     random: u8,
-) -> Core
+) -> Acted
     requires { ⌜ Accepted op (whole c (now v) (now stack)) (now memory) (now picture) ⌝ }
     ensures { λ r. ⌜ Became
         (after op keys random (whole c (now (v .entry)) (now (stack .entry))) (now (memory .entry)) (now (picture .entry)))
-        (whole r (now (v .exit)) (now (stack .exit))) (now (memory .exit)) (now (picture .exit)) ⌝ }
+        (whole (r .core) (now (v .exit)) (now (stack .exit))) (now (memory .exit)) (now (picture .exit)) ⌝ }
+    ensures { λ r. ⌜ (r .dark ≡ darkOf op (whole c (now (v .entry)) (now (stack .entry))) (now (memory .entry)) (now (picture .entry)))
+        × (r .dark ≤ 8 * patternBytes op) ⌝ }
 {
     match op {
-        Op::Plain(s) => registers::idle(registers::simple(s, c, v, keys, random)),
-        Op::AwaitKey(x) => registers::awaited(x, keys, c, v),
-        Op::Call(a) => registers::idle(registers::called(c, stack, a)),
-        Op::Return => registers::idle(registers::returned(c, stack)),
+        Op::Plain(s) => undrawn(registers::idle(registers::simple(s, c, v, keys, random))),
+        Op::AwaitKey(x) => undrawn(registers::awaited(x, keys, c, v)),
+        Op::Call(a) => undrawn(registers::idle(registers::called(c, stack, a))),
+        Op::Return => undrawn(registers::idle(registers::returned(c, stack))),
         Op::Clear => {
             picture::clear(picture);
-            registers::idle(registers::onward(c))
+            undrawn(registers::idle(registers::onward(c)))
         }
         Op::Draw(x, y, n) => draw(c, v, x, y, pattern(c.i, n, memory), picture),
-        Op::Decimal(x) => decimal(c, registers::get(v, x), memory),
-        Op::Store(x) => store(c, v, x, memory),
-        Op::Fetch(x) => fetch(c, v, x, memory),
-        Op::Unlisted => registers::idle(c),
-        Op::MachineCode => registers::idle(c),
+        Op::Decimal(x) => undrawn(decimal(c, registers::get(v, x), memory)),
+        Op::Store(x) => undrawn(store(c, v, x, memory)),
+        Op::Fetch(x) => undrawn(fetch(c, v, x, memory)),
+        Op::Unlisted => undrawn(registers::idle(c)),
+        Op::MachineCode => undrawn(registers::idle(c)),
     }
 }

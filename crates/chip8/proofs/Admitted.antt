@@ -1,12 +1,12 @@
 -- The tests 9 and 10 before a call: where they refuse, that is what the call gives.
-use mathlib.Core.Path.{_≡_}
+use mathlib.Core.Path.{_≡_, _∙_}
 use mathlib.Core.Bool.{true, _&&_, and-eq-true-iff}
 use mathlib.Core.List.{List}
 use Prim.Native.Nat.{ℕ}
 use native.Mathlib.Omega.{arith}
 use lib.ListN.{length, drop}
 use lib.Dec.{ltb, leb}
-use borrow.Author.Tests.{ltb-true, leb-true}
+use borrow.Author.Tests.{ltb-true, leb-true, ne-eqb}
 use Rattle.rules.specs.declared.Machine.{Machine}
 use Rattle.rules.specs.declared.Trail.{Trail}
 use Rattle.rules.specs.declared.Refusal.{Refusal}
@@ -18,13 +18,18 @@ use Rattle.rules.specs.State.{sound, zeros, heldSound}
 use Rattle.rules.specs.World.{World, world, places, buffersFit, historyFits, trailFits, soundly}
 use Rattle.rules.specs.Call.{step, stepped, stepRefusal, tick, ticked, tickRefusal, back, undone, lastRecord, backRefusal}
 use Rattle.rules.specs.Run.{unrefused}
-use Rattle.rules.proofs.Given.{Back, tests, given-refused, answered-done, both-passed, settled}
+use Rattle.rules.specs.Dark.{stepDark}
+use Rattle.rules.proofs.Given.{Back, tests, given-refused, answered-done, both-passed, settled, refused-some}
 use Rattle.moves.specs.Inner.{Tickable}
 
 module _ (w : World) (r : Refusal) (e : number (Refused r) ≡ tests w true) where
   pub step-refused : (keys random : ℕ) → Back (step keys random w) (Refused r) w
   unfolding step stepRefusal
   step-refused keys random = given-refused (stepRefusal w) (stepped keys random w) w r (settled (buffersFit w) (soundly w) _ r e)
+
+  pub step-refused-dark : stepDark w ≡ 0
+  unfolding stepDark stepRefusal
+  step-refused-dark = rw (ne-eqb (stepRefusal w) 0 (λ z. refused-some r (settled (buffersFit w) (soundly w) _ r e ∙ z)))
 
   pub back-refused : Back (back w) (Refused r) w
   unfolding back backRefusal

@@ -2,7 +2,7 @@
 use mathlib.Core.Path.{_≡_, refl, sym, _∙_}
 use mathlib.Core.Bool.{true, _&&_, and-eq-true-iff}
 use mathlib.Core.List.{List, [], _∷_}
-use Prim.Native.Nat.{ℕ, _+_, _≤_, _<_}
+use Prim.Native.Nat.{ℕ, _+_, _*_, _≤_, _<_}
 use native.Mathlib.Numerals.{add-one}
 use native.Mathlib.Omega.{arith}
 use lib.ListN.{length, drop, getD, drop-of-length-le}
@@ -16,8 +16,9 @@ use Rattle.rules.specs.declared.Outcome.the-variants.{Done, Refused}
 use Rattle.rules.specs.Number.{pick}
 use Rattle.rules.specs.Refusal.{number}
 use Rattle.rules.specs.World.{World, Answer, world}
-use Rattle.rules.specs.Call.{step}
+use Rattle.rules.specs.Call.{step, stepRefusal}
 use Rattle.rules.specs.Run.{Ran, tickedBy, runFrom, listsFit, run, runRefusal}
+use Rattle.rules.specs.Dark.{stepDark, runDarkFrom, runDark}
 use Rattle.rules.specs.Promise.{Gives, GivesRun}
 use Rattle.rules.proofs.Choices.{by-test}
 use Rattle.rules.proofs.Given.{tests, handed, refused-some}
@@ -49,22 +50,38 @@ alone keys random w =
     let a = step keys random w in
     by-test (λ (r : Ran). r .answer ≡ a) (a .refusal) 0 (λ z i. record { refusal = sym z i; world = a .world }) (λ ne. refl)
 
--- after i entries
-pub record Running (ticks keys randoms : List ℕ) (w₀ w : World) (i : ℕ) : Type 0 where
+pub alone-dark : (keys random : ℕ) (w : World) → runDarkFrom (0 ∷ []) (keys ∷ []) (random ∷ []) w ≡ stepDark w
+unfolding runDarkFrom stepDark step
+alone-dark keys random w =
+    by-test (λ (a : Answer). pick (eqb (a .refusal) 0) (stepDark w + 0) 0 ≡ stepDark w) (stepRefusal w) 0 (λ z. omega arith)
+    (λ ne. rw (ne-eqb (stepRefusal w) 0 ne))
+
+pub alone-few : (keys random : ℕ) (w : World) → (runFrom 0 (0 ∷ []) (keys ∷ []) (random ∷ []) w) .accepted ≤ 1
+unfolding runFrom
+alone-few keys random w = by-test (λ (r : Ran). r .accepted ≤ 1) ((step keys random w) .refusal) 0 (λ z. omega arith) (λ ne. omega arith)
+
+-- after i entries, which darkened so many spots
+pub record Running (ticks keys randoms : List ℕ) (w₀ w : World) (i dark : ℕ) : Type 0 where
   pub lists : SameLength ticks keys randoms
   pub inside : i ≤ length ticks
   pub ready : Ready w
   pub same : runFrom i (drop i ticks) (drop i keys) (drop i randoms) w ≡ runFrom 0 ticks keys randoms w₀
+  pub sum : dark + runDarkFrom (drop i ticks) (drop i keys) (drop i randoms) w ≡ runDarkFrom ticks keys randoms w₀
+  pub few : dark ≤ 120 * i
 
-pub started : (ticks keys randoms : List ℕ) (w : World) → SameLength ticks keys randoms → Ready w → Running ticks keys randoms w w 0
-started ticks keys randoms w s h = record { lists = s; inside = omega arith; ready = h; same = refl }
+pub started : (ticks keys randoms : List ℕ) (w : World) → SameLength ticks keys randoms → Ready w → Running ticks keys randoms w w 0 0
+started ticks keys randoms w s h = record { lists = s; inside = omega arith; ready = h; same = refl; sum = omega arith; few = omega arith }
 
-module _ (ticks keys randoms : List ℕ) (w₀ w : World) (i : ℕ) (h : Running ticks keys randoms w₀ w i) where
+module _ (ticks keys randoms : List ℕ) (w₀ w : World) (i dark : ℕ) (h : Running ticks keys randoms w₀ w i dark) where
   pub ended : length ticks ≤ i → GivesRun (runFrom 0 ticks keys randoms w₀) i Done (w .machine) (w .trail) (w .memory) (w .picture) (w .history)
   unfolding runFrom
   ended past =
       rw (← h .same, drop-of-length-le ticks {i = i} past)
       (record { accepted = refl; rest = world-gives w w refl })
+
+  pub ended-dark : length ticks ≤ i → dark ≡ runDarkFrom ticks keys randoms w₀
+  unfolding runDarkFrom
+  ended-dark past = omega (arith, rw (drop-of-length-le ticks {i = i} past) at (h .sum))
 
   module _ (more : i < length ticks) where
     abbrev entry : Answer
@@ -79,15 +96,28 @@ module _ (ticks keys randoms : List ℕ) (w₀ w : World) (i : ℕ) (h : Running
     opened =
         rw (drop-next ticks i more, drop-next keys i (omega (arith, h .lists .keys)), drop-next randoms i (omega (arith, h .lists .randoms))) at (h .same)
 
-    pub went-on : (m : Machine) (t : Trail) (mem pic his : List ℕ) → Gives entry Done m t mem pic his
-        → Running ticks keys randoms w₀ (world m t mem pic his) (i + 1)
-    went-on m t mem pic his g =
+    -- what the entry darkens, where its step is accepted
+    abbrev put-out : ℕ
+    put-out = stepDark (tickedBy (getD ticks i 0) w)
+
+    opened-dark : dark + pick (eqb (entry .refusal) 0)
+        (put-out + runDarkFrom (drop (i + 1) ticks) (drop (i + 1) keys) (drop (i + 1) randoms) (entry .world)) 0
+        ≡ runDarkFrom ticks keys randoms w₀
+    unfolding runDarkFrom
+    opened-dark =
+        rw (drop-next ticks i more, drop-next keys i (omega (arith, h .lists .keys)), drop-next randoms i (omega (arith, h .lists .randoms))) at (h .sum)
+
+    pub went-on : (m : Machine) (t : Trail) (mem pic his : List ℕ) (d : ℕ) → Gives entry Done m t mem pic his
+        → d ≡ put-out → d ≤ 120 → Running ticks keys randoms w₀ (world m t mem pic his) (i + 1) (dark + d)
+    went-on m t mem pic his d g e l =
         let at = gives-world entry Done m t mem pic his g in
         record {
           lists = h .lists;
           inside = omega arith;
           ready = rw at (step-ready (tickedBy (getD ticks i 0) w) (ticks-ready (getD ticks i 0) w (h .ready)) (getD keys i 0) (getD randoms i 0));
           same = rw at (rw (eq-eqb (entry .refusal) 0 (sym (g .says))) at opened);
+          sum = rw (at, e) (omega (arith, rw (eq-eqb (entry .refusal) 0 (sym (g .says))) at opened-dark));
+          few = omega (arith, h .few);
         }
 
     pub stopped : (r : Refusal) (m : Machine) (t : Trail) (mem pic his : List ℕ) → Gives entry (Refused r) m t mem pic his
@@ -96,6 +126,11 @@ module _ (ticks keys randoms : List ℕ) (w₀ w : World) (i : ℕ) (h : Running
         let some = ne-eqb (entry .refusal) 0 (λ z. refused-some r (g .says ∙ z)) in
         let last = rw some at opened in
         rw (← last) (record { accepted = refl; rest = g })
+
+    pub stopped-dark : (r : Refusal) (m : Machine) (t : Trail) (mem pic his : List ℕ) → Gives entry (Refused r) m t mem pic his
+        → dark ≡ runDarkFrom ticks keys randoms w₀
+    stopped-dark r m t mem pic his g =
+        omega (arith, rw (ne-eqb (entry .refusal) 0 (λ z. refused-some r (g .says ∙ z))) at opened-dark)
 
 -- ---- the call
 
@@ -106,6 +141,16 @@ run-refused ticks keys randoms w r e =
     let refusal = runRefusal ticks keys randoms w in
     rw (ne-eqb refusal 0 (λ z. refused-some r (e ∙ z)))
     (record { accepted = refl; rest = handed refusal w (Refused r) e })
+
+pub run-refused-dark : (ticks keys randoms : List ℕ) (w : World) (r : Refusal) → number (Refused r) ≡ tests w (listsFit ticks keys randoms)
+    → runDark ticks keys randoms w ≡ 0
+unfolding runDark runRefusal
+run-refused-dark ticks keys randoms w r e = rw (ne-eqb (runRefusal ticks keys randoms w) 0 (λ z. refused-some r (e ∙ z)))
+
+pub run-admitted-dark : (ticks keys randoms : List ℕ) (w : World) → tests w (listsFit ticks keys randoms) ≡ 0
+    → runDark ticks keys randoms w ≡ runDarkFrom ticks keys randoms w
+unfolding runDark runRefusal
+run-admitted-dark ticks keys randoms w e = rw (eq-eqb (runRefusal ticks keys randoms w) 0 e)
 
 pub run-admitted : (ticks keys randoms : List ℕ) (w : World) → tests w (listsFit ticks keys randoms) ≡ 0
     → run ticks keys randoms w ≡ runFrom 0 ticks keys randoms w

@@ -8,11 +8,12 @@ mod running;
 ghost use mathlib.Core.Path.{_≡_};
 ghost use mathlib.Core.Bool.{true};
 ghost use mathlib.Core.List.{List};
-ghost use Prim.Native.Nat.{ℕ};
+ghost use Prim.Native.Nat.{ℕ, _*_, _≤_};
 ghost use Rattle.rules.specs.World.{world, places};
 ghost use Rattle.rules.specs.Load as rules_load;
 ghost use Rattle.rules.specs.Call as rules_call;
 ghost use Rattle.rules.specs.Run as rules_run;
+ghost use Rattle.rules.specs.Dark as rules_dark;
 ghost use Rattle.rules.specs.Run.{listsFit, allMoves, movesOf};
 ghost use Rattle.rules.specs.Past.{Start, Told, follow, first};
 ghost use Rattle.rules.specs.Promise.{Gives, GivesRun};
@@ -28,9 +29,18 @@ pub struct Answer {
     pub trail: Trail,
 }
 
-// The same of a run, with the number of accepted steps.
+// The same of a step, with the number of lit spots that its drawing darkened.
+pub struct Stepped {
+    pub dark: usize,
+    pub outcome: Outcome,
+    pub machine: Machine,
+    pub trail: Trail,
+}
+
+// The same of a run, with the number of accepted steps and the sum of what they darkened.
 pub struct Ran {
     pub accepted: usize,
+    pub dark: usize,
     pub outcome: Outcome,
     pub machine: Machine,
     pub trail: Trail,
@@ -71,14 +81,17 @@ pub fn step(
     history: &mut [u8],
     keys: u16,
     random: u8,
-) -> Answer
+) -> Stepped
     ensures { λ r. ⌜ Gives
         (rules_call.step keys random (world machine trail (now (memory .entry)) (now (picture .entry)) (now (history .entry))))
         (r .outcome) (r .machine) (r .trail) (now (memory .exit)) (now (picture .exit)) (now (history .exit)) ⌝ }
+    ensures { λ r. ⌜ (r .dark ≡ rules_dark.stepDark
+        (world machine trail (now (memory .entry)) (now (picture .entry)) (now (history .entry)))) × (r .dark ≤ 120) ⌝ }
 {
     let outcome = judge::admitted(machine, trail, memory, picture, history, true);
     let Outcome::Done = outcome else {
-        return Answer {
+        return Stepped {
+            dark: 0,
             outcome,
             machine,
             trail,
@@ -153,12 +166,16 @@ pub fn run(
         (rules_run.run (now (ticks .entry)) (now (keys .entry)) (now (randoms .entry))
         (world machine trail (now (memory .entry)) (now (picture .entry)) (now (history .entry)))) (r .accepted) (r .outcome)
         (r .machine) (r .trail) (now (memory .exit)) (now (picture .exit)) (now (history .exit)) ⌝ }
+    ensures { λ r. ⌜ (r .dark ≡ rules_dark.runDark (now (ticks .entry)) (now (keys .entry)) (now (randoms .entry))
+        (world machine trail (now (memory .entry)) (now (picture .entry)) (now (history .entry))))
+        × (r .dark ≤ 120 * r .accepted) ⌝ }
 {
     let lists = running::lists_fit(ticks.len(), keys.len(), randoms.len());
     let outcome = judge::admitted(machine, trail, memory, picture, history, lists);
     let Outcome::Done = outcome else {
         return Ran {
             accepted: 0,
+            dark: 0,
             outcome,
             machine,
             trail,

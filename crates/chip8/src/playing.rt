@@ -39,7 +39,17 @@ fn make(
         (r .outcome) (r .machine) (r .trail) (now (memory .exit)) (now (picture .exit)) (now (history .exit)) ⌝ }
 {
     match step {
-        0 => crate::step(machine, trail, memory, picture, history, keys, random),
+        0 => {
+            let stepped = crate::step(machine, trail, memory, picture, history, keys, random);
+            let outcome = stepped.outcome;
+            let next_machine = stepped.machine;
+            let next_trail = stepped.trail;
+            Answer {
+                outcome,
+                machine: next_machine,
+                trail: next_trail,
+            }
+        }
         1 => crate::tick(machine, trail, history),
         _ => crate::back(machine, trail, memory, picture, history),
     }

@@ -4,17 +4,18 @@
 ghost use mathlib.Core.Path.{_≡_};
 ghost use mathlib.Core.Bool.{true, _&&_};
 ghost use mathlib.Core.List.{List};
-ghost use Prim.Native.Nat.{ℕ};
+ghost use Prim.Native.Nat.{ℕ, _*_, _≤_};
 ghost use lib.Dec.{eqb, leb};
 ghost use Rattle.rules.specs.World.{world};
 ghost use Rattle.rules.specs.Call as rules_call;
 ghost use Rattle.rules.specs.Run.{tickedBy, runFrom, unrefused, listsFit};
+ghost use Rattle.rules.specs.Dark.{stepDark, runDarkFrom};
 ghost use Rattle.rules.specs.Promise.{Gives, GivesRun};
 ghost use Rattle.rules.proofs.Ready.{Ready};
 ghost use Rattle.parts.specs.Whole.{whole};
 ghost use Rattle.moves.specs.Inner.{Tickable};
-use crate::Answer;
 use crate::Ran;
+use crate::Stepped;
 use moves::Moved;
 use parts::Core;
 use rules::Machine;
@@ -74,7 +75,7 @@ fn entry(
     ticks: u8,
     keys: u16,
     random: u8,
-) -> Moved
+) -> moves::Stepped
     requires { ⌜ Ready (world (whole c (now v) (now stack)) trail (now memory) (now picture) (now history)) ⌝ }
     ensures { λ r. ⌜ Gives
         (rules_call.step keys random
@@ -82,6 +83,10 @@ fn entry(
         (world (whole c (now (v .entry)) (now (stack .entry))) trail (now (memory .entry)) (now (picture .entry))
         (now (history .entry))))) (r .outcome) (whole (r .core) (now (v .exit)) (now (stack .exit))) (r .trail)
         (now (memory .exit)) (now (picture .exit)) (now (history .exit)) ⌝ }
+    ensures { λ r. ⌜ (r .dark ≡ stepDark
+        (tickedBy ticks
+        (world (whole c (now (v .entry)) (now (stack .entry))) trail (now (memory .entry)) (now (picture .entry))
+        (now (history .entry))))) × (r .dark ≤ 120) ⌝ }
 {
     let ticked = ticks_of(c, v, stack, trail, history, ticks);
     let core = ticked.core;
@@ -105,11 +110,15 @@ pub(crate) fn run(
         (runFrom 0 (now (ticks .entry)) (now (keys .entry)) (now (randoms .entry))
         (world machine trail (now (memory .entry)) (now (picture .entry)) (now (history .entry)))) (r .accepted) (r .outcome)
         (r .machine) (r .trail) (now (memory .exit)) (now (picture .exit)) (now (history .exit)) ⌝ }
+    ensures { λ r. ⌜ (r .dark ≡ runDarkFrom (now (ticks .entry)) (now (keys .entry)) (now (randoms .entry))
+        (world machine trail (now (memory .entry)) (now (picture .entry)) (now (history .entry))))
+        × (r .dark ≤ 120 * r .accepted) ⌝ }
 {
     let mut v = machine.v;
     let mut stack = machine.stack;
     let mut c = parts::core_of(machine);
     let mut t = trail;
+    let mut dark = 0;
     let mut i = 0;
     while i < ticks.len() {
         let moved = entry(
@@ -132,15 +141,18 @@ pub(crate) fn run(
         let Outcome::Done = outcome else {
             return Ran {
                 accepted: i,
+                dark,
                 outcome,
                 machine: parts::whole(c, v, stack),
                 trail: t,
             };
         };
+        dark += moved.dark;
         i += 1;
     }
     Ran {
         accepted: i,
+        dark,
         outcome: Outcome::Done,
         machine: parts::whole(c, v, stack),
         trail: t,
@@ -156,11 +168,13 @@ pub(crate) fn one_step(
     history: &mut [u8],
     keys: u16,
     random: u8,
-) -> Answer
+) -> Stepped
     requires { ⌜ Ready (world machine trail (now memory) (now picture) (now history)) ⌝ }
     ensures { λ r. ⌜ Gives
         (rules_call.step keys random (world machine trail (now (memory .entry)) (now (picture .entry)) (now (history .entry))))
         (r .outcome) (r .machine) (r .trail) (now (memory .exit)) (now (picture .exit)) (now (history .exit)) ⌝ }
+    ensures { λ r. ⌜ (r .dark ≡ stepDark (world machine trail (now (memory .entry)) (now (picture .entry)) (now (history .entry))))
+        × (r .dark ≤ 120) ⌝ }
 {
     let ticks = [0];
     let key_list = [keys];
@@ -178,7 +192,8 @@ pub(crate) fn one_step(
     let outcome = ran.outcome;
     let next_machine = ran.machine;
     let next_trail = ran.trail;
-    Answer {
+    Stepped {
+        dark: ran.dark,
         outcome,
         machine: next_machine,
         trail: next_trail,

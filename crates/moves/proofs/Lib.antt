@@ -1,3 +1,3 @@
 -- What a step's parts ask, and what they make together.
 pub mod Keep
-pub mod Stepped
+pub mod OneStep

@@ -10,6 +10,7 @@ ghost use Rattle.rules.specs.Record as kept;
 ghost use Rattle.rules.specs.World.{world};
 ghost use Rattle.rules.specs.Call as rule;
 ghost use Rattle.rules.specs.Run.{unrefused};
+ghost use Rattle.rules.specs.Dark.{stepDark};
 ghost use Rattle.rules.specs.Promise.{Gives};
 ghost use Rattle.rules.proofs.Ready.{Ready};
 ghost use Rattle.rules.proofs.Undo.{Fits};
@@ -22,11 +23,19 @@ use rules::Outcome;
 use rules::Refusal;
 use rules::Trail;
 
-// What a move hands back beside what is lent: what came of it, the core, and the history's two numbers.
+// What a tick hands back beside what is lent: what came of it, the core, and the history's two numbers.
 pub struct Moved {
     pub outcome: Outcome,
     pub core: Core,
     pub trail: Trail,
+}
+
+// The same of a step, with the number of lit spots that it darkened.
+pub struct Stepped {
+    pub outcome: Outcome,
+    pub core: Core,
+    pub trail: Trail,
+    pub dark: usize,
 }
 
 // ---- the trail
@@ -90,29 +99,34 @@ pub fn step(
     history: &mut [u8],
     keys: u16,
     random: u8,
-) -> Moved
+) -> Stepped
     requires { ⌜ Ready (world (whole c (now v) (now stack)) trail (now memory) (now picture) (now history)) ⌝ }
     ensures { λ r. ⌜ Gives
         (rule.step keys random
         (world (whole c (now (v .entry)) (now (stack .entry))) trail (now (memory .entry)) (now (picture .entry))
         (now (history .entry)))) (r .outcome) (whole (r .core) (now (v .exit)) (now (stack .exit))) (r .trail)
         (now (memory .exit)) (now (picture .exit)) (now (history .exit)) ⌝ }
+    ensures { λ r. ⌜ (r .dark ≡ stepDark
+        (world (whole c (now (v .entry)) (now (stack .entry))) trail (now (memory .entry)) (now (picture .entry))
+        (now (history .entry)))) × (r .dark ≤ 120) ⌝ }
 {
     let at = c.pc as usize;
     if Machine::MEMORY - 2 < at {
-        return Moved {
+        return Stepped {
             outcome: Outcome::Refused(Refusal::PcPastEnd),
             core: c,
             trail,
+            dark: 0,
         };
     }
     let op = decode::decode(memory[at], memory[at + 1]);
     let outcome = judge::judged(op, c);
     let Outcome::Done = outcome else {
-        return Moved {
+        return Stepped {
             outcome,
             core: c,
             trail,
+            dark: 0,
         };
     };
     let places = judge::places(history);
@@ -127,11 +141,13 @@ pub fn step(
         change,
         old_of(change, memory, picture),
     );
-    let core = act::act(op, c, v, stack, memory, picture, keys, random);
-    Moved {
+    let acted = act::act(op, c, v, stack, memory, picture, keys, random);
+    let core = acted.core;
+    Stepped {
         outcome: Outcome::Done,
         core,
         trail: grown(trail, places),
+        dark: acted.dark,
     }
 }
 

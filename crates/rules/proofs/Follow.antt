@@ -70,7 +70,7 @@ OpFits (AwaitKey x) = Unit {0}
 OpFits (Call a) = a < 4096
 OpFits Return = Unit {0}
 OpFits Clear = Unit {0}
-OpFits (Draw x y n) = Unit {0}
+OpFits (Draw x y n) = n < 16
 OpFits (Decimal x) = Unit {0}
 OpFits (Store x) = Unit {0}
 OpFits (Fetch x) = Unit {0}
@@ -114,7 +114,7 @@ decode-fits hi lo hh lh = tree .fits
         (first 0xA (fit address)
         (first 0xB (fit tt)
         (first 0xC (fit lh)
-        (first 0xD (fit tt)
+        (first 0xD (fit (omega arith))
         (first 0xE (low 0x9E (fit tt) (low 0xA1 (fit tt) (fit tt)))
         (low 0x07 (fit tt) (low 0x0A (fit tt) (low 0x15 (fit tt) (low 0x18 (fit tt) (low 0x1E (fit tt)
         (low 0x29 (fit tt) (low 0x33 (fit tt) (low 0x55 (fit tt) (low 0x65 (fit tt) (fit tt))))))))))))))))))))))))

@@ -13,6 +13,7 @@ pub mod World
 pub mod Load
 pub mod Call
 pub mod Run
+pub mod Dark
 pub mod Cases
 pub mod Typed
 pub mod Past

@@ -1,10 +1,11 @@
 -- Refused by the tests 9 or 10, or the run of a world that is ready.
 use mathlib.Core.Path.{sym, ap, _∙_}
+use native.Mathlib.Omega.{arith}
 use borrow.Author.Needs.{needs}
 use Rattle.rules.specs.Refusal.{number}
 use Rattle.rules.specs.World.{World, world}
 use Rattle.rules.proofs.Given.{passed-lists}
-use Rattle.chip8.proofs.Entries.{run-refused, run-admitted}
+use Rattle.chip8.proofs.Entries.{run-refused, run-refused-dark, run-admitted, run-admitted-dark}
 use Rattle.chip8.proofs.run.Statement.{statement}
 use Rattle.chip8.proofs.run.Tie as tie
 
@@ -15,8 +16,13 @@ given s = let a = s .args in world (a .machine) (a .trail) (a .memory .now) (a .
 returns : tie.Need-returns
 returns c =
     let refused = c .enum-told2 .given .1 in
+    let a = c .before .before .before .before .before .before .before .before .before .before .before .before .before .args in
     let says = rw (c .before .before .before .before .before .before .lists-fit .ensures) at (c .before .before .admitted .ensures .0) in
-    rw refused (run-refused _ _ _ (given (c .before .before .before .before .before .before .before .before .before .before .before .before .before)) _ (rw refused at says))
+    let said = rw refused at says in
+    let w = given (c .before .before .before .before .before .before .before .before .before .before .before .before .before) in (
+      rw refused (run-refused (a .ticks .now) (a .keys .now) (a .randoms .now) w _ said),
+      (sym (run-refused-dark (a .ticks .now) (a .keys .now) (a .randoms .now) w (c .enum-told2 .given .0 .0) said), omega arith),
+    )
 
 run-requires : tie.Need-run-requires
 run-requires c κs =
@@ -30,8 +36,11 @@ returns-2 c =
     let s = c .before .before .before .before .before .before .before .before .before .before .before .before .before .before .before .before .before .before .before .before .before .before .before in
     let a = s .args in
     let says = rw (c .before .before .before .before .before .before .before .before .before .before .before .before .before .before .before .before .lists-fit .ensures) at (c .before .before .before .before .before .before .before .before .before .before .before .before .admitted .ensures .0) in
-    let admitted = run-admitted (a .ticks .now) (a .keys .now) (a .randoms .now) (given s) (sym says ∙ ap number (c .before .before .before .before .before .before .before .before .before .before .enum-told .given .1)) in
-    rw admitted (c .before .before .before .before .before .before .run .ensures)
+    let passed = sym says ∙ ap number (c .before .before .before .before .before .before .before .before .before .before .enum-told .given .1) in
+    let ran = c .before .before .before .before .before .before .run .ensures in (
+      rw (run-admitted (a .ticks .now) (a .keys .now) (a .randoms .now) (given s) passed) (ran .0),
+      (rw (run-admitted-dark (a .ticks .now) (a .keys .now) (a .randoms .now) (given s) passed) (ran .1 .0), ran .1 .1),
+    )
 
 pub run-spec : {M : Type 1} → statement M
 run-spec =

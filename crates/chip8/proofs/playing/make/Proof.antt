@@ -5,7 +5,7 @@ use Rattle.chip8.proofs.playing.make.Statement.{statement}
 use Rattle.chip8.proofs.playing.make.Tie as tie
 
 returns : tie.Need-returns
-returns c = rw (c .before .before .before .before .before .before .before .before .before .before .match .keys1) (c .before .before .before .before .before .before .step .ensures)
+returns c = rw (c .before .before .before .before .before .before .before .before .before .before .before .before .match .keys1) (c .before .before .before .before .before .before .before .before .step .ensures .0)
 
 returns-2 : tie.Need-returns-2
 returns-2 c = let a = c .before .before .before .before .before .before .before .before .args in rw (c .before .before .before .before .match .keys2) (c .before .before .tick .ensures (a .memory .now) (a .picture .now))

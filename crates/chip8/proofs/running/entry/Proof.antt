@@ -3,7 +3,7 @@ use borrow.Author.Needs.{needs}
 use Rattle.rules.specs.World.{World, world}
 use Rattle.rules.proofs.Ready.{ticks-ready}
 use Rattle.parts.specs.Whole.{whole}
-use Rattle.moves.proofs.Stepped.{tickable}
+use Rattle.moves.proofs.OneStep.{tickable}
 use Rattle.chip8.proofs.Ticks.{gives-world}
 use Rattle.chip8.proofs.running.entry.Statement.{statement}
 use Rattle.chip8.proofs.running.entry.Tie as tie
@@ -25,7 +25,9 @@ returns : tie.Need-returns
 returns c =
     let s = c .before .before .before .before .before .before .before .before .before .before .before .before .before .before .before .before .before .before .before .before .before .before .before in
     let ticks = c .before .before .before .before .before .before .before .before .before .before .before .before .before .before .before .before .ticks-of .ensures (s .args .memory .now) (s .args .picture .now) in
-    rw (gives-world _ _ _ _ _ _ _ ticks) at (c .before .before .before .before .before .before .step .ensures)
+    let there = gives-world _ _ _ _ _ _ _ ticks in
+    let stepped = c .before .before .before .before .before .before .step .ensures in
+    (rw there at (stepped .0), (rw there at (stepped .1 .0), stepped .1 .1))
 
 pub entry-spec : {M : Type 1} → statement M
 entry-spec = tie.close (tie.spec ticks-of-requires step-requires (search needs) (search needs) (search needs) returns)

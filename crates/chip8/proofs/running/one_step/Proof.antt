@@ -1,8 +1,9 @@
 -- The run of one entry is its step: where it is accepted nothing is left to be done, and where it is refused the run ends there.
-use mathlib.Core.Path.{refl}
+use mathlib.Core.Path.{refl, _∙_}
+use native.Mathlib.Omega.{arith}
 use borrow.Author.Needs.{needs}
 use Rattle.rules.specs.World.{world}
-use Rattle.chip8.proofs.Entries.{alone}
+use Rattle.chip8.proofs.Entries.{alone, alone-dark, alone-few}
 use Rattle.chip8.proofs.running.one_step.Statement.{statement}
 use Rattle.chip8.proofs.running.one_step.Tie as tie
 
@@ -10,7 +11,11 @@ returns : tie.Need-returns
 returns c =
     let a = c .before .before .before .before .before .before .before .before .before .before .before .before .before .before .before .before .before .before .args in
     let w = world (a .machine) (a .trail) (a .memory .now) (a .picture .now) (a .history .now) in
-    rw (alone (a .keys) (a .random) w) at (c .before .before .before .before .before .before .before .before .run .ensures .rest)
+    let ran = c .before .before .before .before .before .before .before .before .run .ensures in
+    let one = alone-few (a .keys) (a .random) w in (
+      rw (alone (a .keys) (a .random) w) at (ran .0 .rest),
+      (ran .1 .0 ∙ alone-dark (a .keys) (a .random) w, omega (arith, ran .1 .1, ran .0 .accepted, one)),
+    )
 
 pub one-step-spec : {M : Type 1} → statement M
 one-step-spec = tie.close (tie.spec (search needs) (search needs) (search needs) (λ c κs. (c .before .before .before .before .before .before .before .before .before .pre, refl)) (search needs) (search needs) (search needs) returns)

@@ -3,12 +3,14 @@ use mathlib.Core.Path.{_≡_, refl, sym, ap, _∙_}
 use mathlib.Core.List.{List}
 use Prim.Native.Nat.{ℕ, _+_, _*_, _≤_, _<_}
 use native.Mathlib.Omega.{arith}
-use lib.ListN.{length}
+use lib.ListN.{length, getD}
 use lib.Dec.{leb}
-use borrow.Author.Tests.{le-leb, lt-leb}
+use borrow.Author.Tests.{le-leb, lt-leb, eq-eqb, ne-eqb}
 use Rattle.rules.specs.declared.Machine.{Machine}
 use Rattle.rules.specs.declared.Trail.{Trail}
 use Rattle.rules.specs.declared.Op.{Op}
+use Rattle.rules.specs.declared.Op.the-variants.{Plain, AwaitKey, Call, Return, Clear, Draw, Decimal, Store, Fetch}
+use Rattle.rules.specs.declared.Op.the-variants.{Unlisted, MachineCode}
 use Rattle.rules.specs.declared.Refusal.{Refusal}
 use Rattle.rules.specs.declared.Refusal.the-variants.{PcPastEnd}
 use Rattle.rules.specs.declared.Outcome.the-variants.{Done, Refused}
@@ -18,19 +20,39 @@ use Rattle.rules.specs.Record.{old}
 use Rattle.rules.specs.Step.{refusalOf, changeOf, after}
 use Rattle.rules.specs.World.{World, boardOf, places}
 use Rattle.rules.specs.Call.{opAt, step, stepped, stepRefusal, written, grown}
+use Rattle.rules.specs.Dark.{darkOf, stepDark}
 use Rattle.rules.specs.Promise.{Gives}
+use Rattle.rules.proofs.Parts.{below-get}
 use Rattle.rules.proofs.Ready.{Ready, ready-fits, ready-soundly, stepped-follows}
 use Rattle.rules.proofs.Undo.{Fits}
-use Rattle.rules.proofs.Given.{Back, given-refused, answered-done}
+use Rattle.rules.proofs.Follow.{OpFits, decode-fits}
+use Rattle.rules.proofs.Given.{Back, given-refused, answered-done, refused-some}
 use Rattle.act.specs.Accepted.{Accepted}
 use Rattle.act.specs.Became.{Became}
+use Rattle.act.specs.Drawn.{patternBytes}
 use Rattle.history.specs.Writable.{Writable}
 use Rattle.moves.specs.Inner.{Tickable}
 use Rattle.moves.proofs.Keep.{writable}
 
+fifteen : (o : Op) → OpFits o → patternBytes o ≤ 15
+fifteen (Plain s) f = omega arith
+fifteen (AwaitKey x) f = omega arith
+fifteen (Call a) f = omega arith
+fifteen Return f = omega arith
+fifteen Clear f = omega arith
+fifteen (Draw x y n) f = omega arith
+fifteen (Decimal x) f = omega arith
+fifteen (Store x) f = omega arith
+fifteen (Fetch x) f = omega arith
+fifteen Unlisted f = omega arith
+fifteen MachineCode f = omega arith
+
 module _ (w : World) (h : Ready w) where
   abbrev m : Machine
   m = w .machine
+
+  byte : (a : ℕ) → getD (w .memory) a 0 < 256
+  byte a = below-get (omega arith) (h .good .memory .below) a
 
   -- ---- what is left of the judgement
 
@@ -41,15 +63,32 @@ module _ (w : World) (h : Ready w) where
   near-left : m .pc ≤ 4094 → stepRefusal w ≡ refusalOf (opAt (boardOf w)) m
   near-left near = left ∙ rw (le-leb (m .pc) 4094 near)
 
-  pub far : (keys random : ℕ) → 4094 < m .pc → Back (step keys random w) (Refused PcPastEnd) w
-  unfolding step
-  far keys random past = given-refused (stepRefusal w) (stepped keys random w) w PcPastEnd (sym (left ∙ rw (lt-leb (m .pc) 4094 past)))
+  -- a refused step darkens nothing
+  refused-dark : (r : Refusal) → number (Refused r) ≡ stepRefusal w → stepDark w ≡ 0
+  unfolding stepDark
+  refused-dark r e = rw (ne-eqb (stepRefusal w) 0 (λ z. refused-some r (e ∙ z)))
 
-  pub judged-refused : (keys random : ℕ) (op : Op) (r : Refusal) → op ≡ opAt (boardOf w) → m .pc ≤ 4094 → number (Refused r) ≡ refusalOf op m
-      → Back (step keys random w) (Refused r) w
-  unfolding step
-  judged-refused keys random op r e near n =
-      given-refused (stepRefusal w) (stepped keys random w) w r (n ∙ ap (λ (o : Op). refusalOf o m) e ∙ sym (near-left near))
+  module _ (past : 4094 < m .pc) where
+    far-says : number (Refused PcPastEnd) ≡ stepRefusal w
+    far-says = sym (left ∙ rw (lt-leb (m .pc) 4094 past))
+
+    pub far : (keys random : ℕ) → Back (step keys random w) (Refused PcPastEnd) w
+    unfolding step
+    far keys random = given-refused (stepRefusal w) (stepped keys random w) w PcPastEnd far-says
+
+    pub far-dark : stepDark w ≡ 0
+    far-dark = refused-dark PcPastEnd far-says
+
+  module _ (op : Op) (r : Refusal) (e : op ≡ opAt (boardOf w)) (near : m .pc ≤ 4094) (n : number (Refused r) ≡ refusalOf op m) where
+    judged-says : number (Refused r) ≡ stepRefusal w
+    judged-says = n ∙ ap (λ (o : Op). refusalOf o m) e ∙ sym (near-left near)
+
+    pub judged-refused : (keys random : ℕ) → Back (step keys random w) (Refused r) w
+    unfolding step
+    judged-refused keys random = given-refused (stepRefusal w) (stepped keys random w) w r judged-says
+
+    pub judged-dark : stepDark w ≡ 0
+    judged-dark = refused-dark r judged-says
 
   -- ---- what its parts ask
 
@@ -83,6 +122,14 @@ module _ (w : World) (h : Ready w) where
           memory = h .good .memory .size;
           picture = h .good .picture .size;
         }
+
+    pub step-dark : stepDark w ≡ darkOf op m (w .memory) (w .picture)
+    unfolding stepDark
+    step-dark = rw (eq-eqb (stepRefusal w) 0 passes, e)
+
+    -- a pattern has at most fifteen bytes
+    pub few-bytes : patternBytes op ≤ 15
+    few-bytes = rw e (fifteen (opAt (boardOf w)) (decode-fits _ _ (byte (m .pc)) (byte (m .pc + 1))))
 
     -- ---- what they make together
 
