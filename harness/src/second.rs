@@ -1,7 +1,8 @@
-//! The second interpreter: document 01 once more, in its own words and order.
+//! The second interpreter: document 01 once more, in its own words and order,
+//! with the requests of document 02 that have landed.
 //!
-//! It is written from that paper alone and shares no line with the card. It is
-//! meant to be read beside the paper, so it is simple rather than fast.
+//! It is written from those papers alone and shares no line with the card. It is
+//! meant to be read beside them, so it is simple rather than fast.
 
 // ---- The machine ----------------------------------------------------------
 
@@ -351,8 +352,15 @@ fn execute(
         Random { x, kk } => machine.v[x] = random & kk,
 
         Copy { x, y } => machine.v[x] = old.v[y],
-        Or { x, y } => machine.v[x] = old.v[x] | old.v[y],
-        And { x, y } => machine.v[x] = old.v[x] & old.v[y],
+        // both set VF to 0 after the result, also when X is F.
+        Or { x, y } => {
+            machine.v[x] = old.v[x] | old.v[y];
+            machine.v[0xF] = 0;
+        }
+        And { x, y } => {
+            machine.v[x] = old.v[x] & old.v[y];
+            machine.v[0xF] = 0;
+        }
         AddRegister { x, y } => {
             let sum = u16::from(old.v[x]) + u16::from(old.v[y]);
             machine.v[x] = (sum % 256) as u8;

@@ -274,8 +274,14 @@ impl Work {
             0x7 => self.v.set(x, vx.wrapping_add(low)),
             0x8 => match low & 15 {
                 0x0 => self.v.set(x, vy),
-                0x1 => self.v.set(x, vx | vy),
-                0x2 => self.v.set(x, vx & vy),
+                0x1 => {
+                    self.v.set(x, vx | vy);
+                    self.v.set_flag(false);
+                }
+                0x2 => {
+                    self.v.set(x, vx & vy);
+                    self.v.set_flag(false);
+                }
                 0x4 => {
                     let (sum, passed) = vx.overflowing_add(vy);
                     self.v.set(x, sum);

@@ -1,4 +1,5 @@
-//! Document 01's worked cases, "Both sides of each edge", on every engine.
+//! Document 01's worked cases, "Both sides of each edge", and those of the
+//! requests that have landed, on every engine.
 
 use harness::case::Host;
 use harness::engine::{Archive, Buffers, Engine, Second, Tuned, ACCEPTED, ANSWER};
@@ -119,6 +120,44 @@ fn adding_registers_sets_the_flag_last() {
         0x8F14,
         |m| (m.v[15], m.v[1]) = (0xF0, 0x20),
         |m| assert_eq!(m.v[15], 0x01),
+    );
+}
+
+#[test]
+fn or_and_and_clear_the_flag() {
+    one_step(
+        0x8011,
+        |m| (m.v[0], m.v[1], m.v[15]) = (0xF0, 0x0F, 0x07),
+        |m| assert_eq!((m.v[0], m.v[15]), (0xFF, 0)),
+    );
+    one_step(
+        0x8F11,
+        |m| (m.v[15], m.v[1]) = (0xF0, 0x0F),
+        |m| assert_eq!(m.v[15], 0),
+    );
+    one_step(
+        0x8012,
+        |m| (m.v[0], m.v[1], m.v[15]) = (0xF0, 0x3C, 0x07),
+        |m| assert_eq!((m.v[0], m.v[15]), (0x30, 0)),
+    );
+    one_step(
+        0x8F12,
+        |m| (m.v[15], m.v[1]) = (0xF0, 0x3C),
+        |m| assert_eq!(m.v[15], 0),
+    );
+}
+
+#[test]
+fn or_and_and_read_vf_before_they_clear_it() {
+    one_step(
+        0x80F1,
+        |m| (m.v[0], m.v[15]) = (0xF0, 0x0F),
+        |m| assert_eq!((m.v[0], m.v[15]), (0xFF, 0)),
+    );
+    one_step(
+        0x80F2,
+        |m| (m.v[0], m.v[15]) = (0xF0, 0x3C),
+        |m| assert_eq!((m.v[0], m.v[15]), (0x30, 0)),
     );
 }
 

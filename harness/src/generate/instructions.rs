@@ -78,6 +78,13 @@ pub fn using_memory(random: &Random) -> u16 {
     }
 }
 
+/// 8XY0 to 8XY5 with VF among the operands, which most of them also write.
+pub fn using_the_flag(random: &Random) -> u16 {
+    let kind = random.pick(&[0x8000, 0x8001, 0x8001, 0x8002, 0x8002, 0x8004, 0x8005]);
+    let operands = random.pick(&[0x0F00, 0x00F0]);
+    kind | operands | random.word() & 0x0FF0
+}
+
 /// How many bytes from I a word needs, to find the edge for it.
 pub fn bytes_needed(word: u16) -> u16 {
     match (word >> 12, word & 0xFF) {

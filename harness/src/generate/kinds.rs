@@ -14,8 +14,9 @@ pub fn one_instruction_at_a_time(random: &Random) -> Case {
     let places = places(&start.history);
     let mut made = Vec::new();
     for _ in 0..random.within(1..=24) {
-        let word = match random.within(0..=2) {
-            0 => instructions::using_memory(random),
+        let word = match random.within(0..=5) {
+            0 | 1 => instructions::using_memory(random),
+            2 => instructions::using_the_flag(random),
             _ => instructions::any(random),
         };
         let mut machine = hosts::machine(places, random);

@@ -42,6 +42,10 @@ fn piece(routines: u16, random: &Random) -> Vec<u16> {
         9 => vec![0xA000 | far, 0xF01E | x, 0xF055 | x, 0xF065 | x],
         10 => vec![0xE09E | x, 0xE0A1 | x, 0x6000 | x],
         11 if random.once_in(8) => vec![instructions::any(random)],
+        12 => {
+            let flag = u16::from(random.byte());
+            vec![0x6F00 | flag, instructions::using_the_flag(random)]
+        }
         _ => calm(random),
     }
 }
