@@ -82,6 +82,18 @@ run_proved() {
     fi
 }
 
+# A byte that rt names in hex, as \xE2, in octal, which every printf knows.
+octal() {
+    awk 'function digit(c) { return index("0123456789abcdef", c) - 1 }
+    {
+        while (match($0, /\\x[0-9a-f][0-9a-f]/)) {
+            n = 16 * digit(substr($0, RSTART + 2, 1)) + digit(substr($0, RSTART + 3, 1))
+            $0 = substr($0, 1, RSTART - 1) sprintf("\\0%03o", n) substr($0, RSTART + 4)
+        }
+        print
+    }'
+}
+
 # Runs a copy of the sources whose input is the file. rt runs a program without proof only to compare what it writes with what is
 # expected, and shows the next 200 bytes where there is more: so these are expected in the next turn, until nothing is missing.
 run_unproved() {
@@ -94,7 +106,7 @@ run_unproved() {
     until (cd "$work" && "$rt" try "$program") >"$work/said" 2>&1; do
         more=$(sed -n 's/^on standard output, at byte [0-9]*, expected "", found "\([^"]*\)".*/\1/p' "$work/said" | head -n 1)
         [ -n "$more" ] || { cat "$work/said" >&2; die "the program did not compile or run"; }
-        printf '%b' "$more" | tee -a "$trial/stdout"
+        printf '%b' "$(printf '%s\n' "$more" | octal)" | tee -a "$trial/stdout"
     done
 }
 
