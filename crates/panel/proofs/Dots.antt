@@ -4,7 +4,7 @@ use mathlib.Core.Bool.{true, false, false≢true}
 use mathlib.Core.List.{List}
 use Prim.Native.Nat.{ℕ, zero, suc, _+_, _-_, _*_, _/_, _%_, _^_, _≤_, _<_}
 use native.Mathlib.Nat.{mod-lt, not-suc-le-zero, zero-lt-suc, add-zero, zero-add}
-use native.Mathlib.Decide.{ℕ-discrete}
+use native.Mathlib.Decide.{ℕ-discrete, decLt}
 use native.Mathlib.Omega.{arith}
 use lib.ListN.{getD, set, length, length-set}
 use lib.Seq.{ext-getD, getD-set-same, getD-set-other}
@@ -16,7 +16,7 @@ use Rattle.rules.specs.Picture.{spot, byteOf}
 use Rattle.rules.proofs.OnlyOne.{one-outcome}
 use Rattle.rules.proofs.Drawn.{number, same, half, odd, byte-is}
 use Rattle.panel.specs.Panel.{panelSize, dot, PanelOf, dotBytes, panelOf, twice, fits, Shows}
-use Rattle.panel.specs.Bytes.{pair, laid}
+use Rattle.panel.specs.Bytes.{pair, source, above, Upper, Repeated, Doubled}
 
 -- ---- a byte and its bits
 
@@ -86,11 +86,19 @@ module _ (b : ℕ) where
   low-half : number 2 8 (λ i. bit (3 - i / 2) b) ≡ twice b % 256
   low-half = quad-number lower-four ∙ sym (ap (λ (n : ℕ). n % 256) doubled ∙ halves .1)
 
--- ---- the bytes of the panel
+pub twice-word : (b : ℕ) → twice b < 65536
+twice-word b =
+    rw (doubled b)
+    (omega (arith, quad-byte (upper-four b) (λ i. lit (7 - i) b), quad-byte (lower-four b) (λ i. lit (3 - i) b)))
 
--- the byte of the picture that byte j of the panel shows half of
-abbrev source : ℕ → ℕ
-source j = 8 * (j / 32) + j % 16 / 2
+module _ (a b n : ℕ) (h : b < 65536) (e : n ≡ 65536 * a + b) where
+  wide-high : n / 65536 ≡ a
+  wide-high = omega arith
+
+  wide-low : n % 65536 ≡ b
+  wide-low = omega arith
+
+-- ---- the bytes of the panel
 
 -- the first byte of the panel that shows byte k of the picture
 abbrev upper : ℕ → ℕ
@@ -153,7 +161,7 @@ module _ (picture : List ℕ) where
         panel-at j h ∙ same 2 _ _ 8 (λ i l. ap₂ (λ (a b : ℕ). bit a (getD picture b 0)) (omega (arith, column j i l)) (rw (rows j, column j i l .1) e))
         ∙ low-half (getD picture k 0)
 
--- ---- two bytes laid, and two more a row below
+-- ---- two bytes laid
 
 module _ (l : List ℕ) (at n : ℕ) where
   abbrev first : List ℕ
@@ -171,72 +179,136 @@ module _ (l : List ℕ) (at n : ℕ) where
   pair-low : at + 1 < length l → getD (pair l at n) (at + 1) 0 ≡ n % 256
   pair-low h = getD-set-same first (at + 1) (n % 256) 0 (simp length-set h)
 
-module _ (l : List ℕ) (k n : ℕ) (size : length l ≡ 1024) (h : k < 256) where
-  abbrev top : ℕ
-  top = upper k
-
-  pub laid-length : length (laid l k n) ≡ 1024
-  unfolding laid
-  laid-length = simp length-set size
-
-  laid-other : (j : ℕ) → (source j ≡ k → ⊥) → getD (laid l k n) j 0 ≡ getD l j 0
-  unfolding laid
-  laid-other j ne =
-      pair-other (pair l top n) (top + 16) n j (λ e. ne (omega arith)) (λ e. ne (omega arith))
-      ∙ pair-other l top n j (λ e. ne (omega arith)) (λ e. ne (omega arith))
-
-  -- a byte of the top row, or of the lower
-  laid-high : (j : ℕ) → source j ≡ k → j % 2 ≡ 0 → getD (laid l k n) j 0 ≡ n / 256 % 256
-  unfolding laid
-  laid-high j e z = row (ℕ-discrete (j / 16 % 2) 0)
-    where
-      row : Dec (j / 16 % 2 ≡ 0) → getD (laid l k n) j 0 ≡ n / 256 % 256
-      row (yes u) =
-          let d : j ≡ top = omega (arith, place j k e) in
-          rw d (pair-other (pair l top n) (top + 16) n top (omega arith) (omega arith) ∙ pair-high l top n (omega arith))
-      row (no nu) =
-          let d : j ≡ top + 16 = omega (arith, place j k e) in
-          rw d (pair-high (pair l top n) (top + 16) n (omega (arith, pair-length l top n)))
-
-  laid-low : (j : ℕ) → source j ≡ k → j % 2 ≡ 1 → getD (laid l k n) j 0 ≡ n % 256
-  unfolding laid
-  laid-low j e z = row (ℕ-discrete (j / 16 % 2) 0)
-    where
-      row : Dec (j / 16 % 2 ≡ 0) → getD (laid l k n) j 0 ≡ n % 256
-      row (yes u) =
-          let d : j ≡ top + 1 = omega (arith, place j k e) in
-          rw d (pair-other (pair l top n) (top + 16) n (top + 1) (omega arith) (omega arith) ∙ pair-low l top n (omega arith))
-      row (no nu) =
-          let d : j ≡ top + 16 + 1 = omega (arith, place j k e) in
-          rw d (pair-low (pair l top n) (top + 16) n (omega (arith, pair-length l top n)))
-
--- ---- the panel on the way: the first k bytes of the picture are shown
-
-pub record Filled (picture panel : List ℕ) (k : ℕ) : Type 0 where
-  pub size : length panel ≡ 1024
-  pub some : k ≤ 256
-  pub done : (j : ℕ) → j < 1024 → source j < k → getD panel j 0 ≡ getD (panelOf picture) j 0
+-- ---- the upper rows on the way
 
 module _ (picture l : List ℕ) where
-  pub none : length l ≡ 1024 → Filled picture l 0
-  none e = record { size = e; some = omega arith; done = λ j h s. absurd (not-suc-le-zero s) }
+  pub none : length l ≡ 1024 → Upper picture l 0
+  none e = record { size = e; some = omega arith; done = λ j h u s. absurd (not-suc-le-zero s) }
 
-  pub more : (k n : ℕ) → Filled picture l k → k < 256 → n ≡ twice (getD picture k 0) → Filled picture (laid l k n) (k + 1)
-  more k n p h e = record { size = laid-length l k n (p .size) h; some = omega arith; done = λ j hj s. here j hj s (ℕ-discrete (source j) k) }
+  pub more : (k n : ℕ) → Upper picture l k → k < 256 → n ≡ twice (getD picture k 0) → Upper picture (pair l (upper k) n) (k + 1)
+  more k n p h e =
+      record { size = pair-length l (upper k) n ∙ p .size; some = omega arith; done = λ j hj u s. here j hj u s (ℕ-discrete (source j) k) }
     where
-      side : (j : ℕ) → j < 1024 → source j ≡ k → Dec (j % 2 ≡ 0) → getD (laid l k n) j 0 ≡ getD (panelOf picture) j 0
-      side j hj s (yes z) = laid-high l k n (p .size) h j s z ∙ rw e (sym (panel-high picture j k hj s z))
-      side j hj s (no z) =
+      side : (j : ℕ) → j < 1024 → j / 16 % 2 ≡ 0 → source j ≡ k → Dec (j % 2 ≡ 0)
+          → getD (pair l (upper k) n) j 0 ≡ getD (panelOf picture) j 0
+      side j hj u s (yes z) =
+          let d : j ≡ upper k = omega (arith, place j k s) in
+          ap (λ (m : ℕ). getD (pair l (upper k) n) m 0) d ∙ pair-high l (upper k) n (omega (arith, p .size)) ∙ rw e (sym (panel-high picture j k hj s z))
+      side j hj u s (no z) =
           let o : j % 2 ≡ 1 = omega arith in
-          laid-low l k n (p .size) h j s o ∙ rw e (sym (panel-low picture j k hj s o))
+          let d : j ≡ upper k + 1 = omega (arith, place j k s) in
+          ap (λ (m : ℕ). getD (pair l (upper k) n) m 0) d ∙ pair-low l (upper k) n (omega (arith, p .size)) ∙ rw e (sym (panel-low picture j k hj s o))
 
-      here : (j : ℕ) → j < 1024 → source j < k + 1 → Dec (source j ≡ k) → getD (laid l k n) j 0 ≡ getD (panelOf picture) j 0
-      here j hj s (yes z) = side j hj z (ℕ-discrete (j % 2) 0)
-      here j hj s (no z) = laid-other l k n (p .size) h j z ∙ p .done j hj (omega arith)
+      here : (j : ℕ) → j < 1024 → j / 16 % 2 ≡ 0 → source j < k + 1 → Dec (source j ≡ k)
+          → getD (pair l (upper k) n) j 0 ≡ getD (panelOf picture) j 0
+      here j hj u s (yes z) = side j hj u z (ℕ-discrete (j % 2) 0)
+      here j hj u s (no z) =
+          pair-other l (upper k) n j (λ d. z (omega arith)) (λ d. z (omega arith)) ∙ p .done j hj u (omega arith)
 
-  pub all : (k : ℕ) → Filled picture l k → 256 ≤ k → l ≡ panelOf picture
-  all k p h =
-      ext-getD 0 l (panelOf picture) (p .size ∙ sym (panel-length picture)) (λ j s. p .done j (omega (arith, p .size)) (omega (arith, p .size)))
+  pub upper-all : (k : ℕ) → Upper picture l k → 256 ≤ k → Upper picture l 256
+  upper-all k p h =
+      let e : k ≡ 256 = omega arith in
+      rw e at p
+
+-- two bytes of the picture at a time, in one number
+pub two-more : (picture l : List ℕ) (k n : ℕ) → Upper picture l k → k % 2 ≡ 0 → k < 256
+    → n ≡ 65536 * twice (getD picture k 0) + twice (getD picture (k + 1) 0)
+    → Upper picture (pair (pair l (upper k) (n / 65536)) (upper k + 2) (n % 65536)) (k + 2)
+two-more picture l k n p z h e =
+    let right : upper (k + 1) ≡ upper k + 2 = omega arith in
+    let next : k + 1 + 1 ≡ k + 2 = omega arith in
+    let high : n / 65536 ≡ twice (getD picture k 0) = wide-high _ _ n (twice-word _) e in
+    let low : n % 65536 ≡ twice (getD picture (k + 1) 0) = wide-low _ _ n (twice-word _) e in
+    rw (right, next) at (more picture (pair l (upper k) (n / 65536)) (k + 1) (n % 65536) (more picture l k (n / 65536) p h high) (omega arith) low)
+
+-- ---- a row repeated, byte by byte
+
+pub record Copied (l₀ : List ℕ) (at : ℕ) (l : List ℕ) (i : ℕ) : Type 0 where
+  pub size : length l ≡ 1024
+  pub some : i ≤ 16
+  pub ahead : (j : ℕ) → j < at + 16 → getD l j 0 ≡ getD l₀ j 0
+  pub copied : (j : ℕ) → at + 16 ≤ j → j < at + 16 + i → getD l j 0 ≡ getD l₀ (j - 16) 0
+  pub behind : (j : ℕ) → at + 16 + i ≤ j → getD l j 0 ≡ getD l₀ j 0
+
+module _ (l₀ : List ℕ) (at : ℕ) where
+  pub copy-none : length l₀ ≡ 1024 → Copied l₀ at l₀ 0
+  copy-none e =
+      record { size = e; some = omega arith; ahead = λ j h. refl; copied = λ j h s. absurd (omega arith); behind = λ j h. refl }
+
+  pub copy-more : (l : List ℕ) (i : ℕ) → Copied l₀ at l i → i < 16 → at + 32 ≤ 1024 → Copied l₀ at (set l (at + 16 + i) (getD l (at + i) 0)) (i + 1)
+  copy-more l i p h room =
+      record {
+        size = length-set l (at + 16 + i) _ ∙ p .size;
+        some = omega arith;
+        ahead = λ j s. getD-set-other l (at + 16 + i) j _ 0 (omega arith) ∙ p .ahead j s;
+        copied = λ j a s. here j a s (ℕ-discrete j (at + 16 + i));
+        behind = λ j s. getD-set-other l (at + 16 + i) j _ 0 (omega arith) ∙ p .behind j (omega arith);
+      }
+    where
+      here : (j : ℕ) → at + 16 ≤ j → j < at + 16 + (i + 1) → Dec (j ≡ at + 16 + i)
+          → getD (set l (at + 16 + i) (getD l (at + i) 0)) j 0 ≡ getD l₀ (j - 16) 0
+      here j a s (yes e) =
+          let back : at + 16 + i - 16 ≡ at + i = omega arith in
+          rw (e, back) (getD-set-same l (at + 16 + i) (getD l (at + i) 0) 0 (omega (arith, p .size)) ∙ p .ahead (at + i) (omega arith))
+      here j a s (no ne) = getD-set-other l (at + 16 + i) j (getD l (at + i) 0) 0 ne ∙ p .copied j a (omega arith)
+
+  pub copy-all : (l : List ℕ) (i y : ℕ) → Copied l₀ at l i → 16 ≤ i → at ≡ 32 * y → Repeated l₀ y l
+  copy-all l i y p h e =
+      record {
+        row = λ j s. half j s (ℕ-discrete (j / 16 % 2) 0);
+        rest = λ j ne. outside j ne (decLt j (at + 16));
+      }
+    where
+      half : (j : ℕ) → j / 32 ≡ y → Dec (j / 16 % 2 ≡ 0) → getD l j 0 ≡ getD l₀ (above j) 0
+      half j s (yes z) =
+          let same-place : above j ≡ j = omega arith in
+          rw same-place (p .ahead j (omega arith))
+      half j s (no z) =
+          let up : above j ≡ j - 16 = omega arith in
+          rw up (p .copied j (omega arith) (omega arith))
+
+      outside : (j : ℕ) → (j / 32 ≡ y → ⊥) → Dec (j < at + 16) → getD l j 0 ≡ getD l₀ j 0
+      outside j ne (yes s) = p .ahead j s
+      outside j ne (no s) = p .behind j (omega arith)
+
+-- ---- all rows repeated
+
+module _ (l₀ : List ℕ) where
+  pub rows-none : length l₀ ≡ 1024 → Doubled l₀ 0 l₀
+  rows-none e = record { size = e; some = omega arith; done = λ j s. absurd (not-suc-le-zero s); rest = λ j s. refl }
+
+  pub rows-more : (l l' : List ℕ) (y : ℕ) → Doubled l₀ y l → Repeated l y l' → length l' ≡ length l → y < 32 → Doubled l₀ (y + 1) l'
+  rows-more l l' y p q e h =
+      record {
+        size = e ∙ p .size;
+        some = omega arith;
+        done = λ j s. here j s (ℕ-discrete (j / 32) y);
+        rest = λ j s. q .rest j (omega arith) ∙ p .rest j (omega arith);
+      }
+    where
+      here : (j : ℕ) → j / 32 < y + 1 → Dec (j / 32 ≡ y) → getD l' j 0 ≡ getD l₀ (above j) 0
+      here j s (yes z) = q .row j z ∙ p .rest (above j) (omega arith)
+      here j s (no z) = q .rest j z ∙ p .done j (omega arith)
+
+  pub rows-all : (l : List ℕ) (y : ℕ) → Doubled l₀ y l → 32 ≤ y → Doubled l₀ 32 l
+  rows-all l y p h =
+      let e : y ≡ 32 = omega arith in
+      rw e at p
+
+-- upper rows that show the picture, each of them twice, are the panel
+pub both-rows : (picture l l' : List ℕ) → Upper picture l 256 → Doubled l 32 l' → l' ≡ panelOf picture
+both-rows picture l l' p q =
+    ext-getD 0 l' (panelOf picture) (q .size ∙ sym (panel-length picture)) λ j s.
+    let h : j < 1024 = omega (arith, q .size) in
+    q .done j (omega arith) ∙ p .done (above j) (omega arith) (omega arith) (omega arith)
+    ∙ panel-at picture (above j) (omega arith) ∙ same-rows j h
+  where
+    same-rows : (j : ℕ) → j < 1024
+        → number 2 8 (λ i. shown picture (8 * (above j % 16) + i) (above j / 16)) ≡ getD (panelOf picture) j 0
+    same-rows j h =
+        let col : above j % 16 ≡ j % 16 = omega arith in
+        let row : above j / 16 / 2 ≡ j / 16 / 2 = omega arith in
+        rw (col, row) (sym (panel-at picture j h))
 
 -- ---- dot for dot
 
