@@ -3,7 +3,8 @@
  *
  * Link with the static library libcard.a. Six functions load a program, make
  * one step or one clock tick, go one action back, run a list of inputs, and
- * play a list of moves.
+ * play a list of moves. A seventh turns the picture into the bytes of the
+ * card's own panel.
  *
  * THE BUFFERS
  *
@@ -16,6 +17,11 @@
  *                          highest bit leftmost, 1 for a lit spot
  *   history  288 to 65,536 bytes, a place of 288 bytes for each action that can
  *            be taken back; bytes after the last whole place are not used
+ *
+ * Beside them, for card_panel alone:
+ *
+ *   panel    1,024 bytes   128 by 64 dots, 16 bytes a row, top row first, the
+ *                          highest bit leftmost, 1 for a lit dot
  *
  * Each buffer is handed over as a pointer and, right after it, its length. The
  * length counts elements: bytes, 16-bit numbers for keys, 64-bit numbers for an
@@ -77,6 +83,10 @@ extern "C" {
 #define CARD_COLUMNS 64
 #define CARD_ROWS 32
 #define CARD_BYTES_A_ROW 8
+#define CARD_PANEL 1024
+#define CARD_PANEL_COLUMNS 128
+#define CARD_PANEL_ROWS 64
+#define CARD_PANEL_BYTES_A_ROW 16
 #define CARD_PLACE 288
 #define CARD_HISTORY_LEAST 288
 #define CARD_HISTORY_MOST 65536
@@ -117,6 +127,7 @@ enum card_refusal {
  *   back  9, 10, 7, 11
  *   run   9, 10, then that of the step that ended it
  *   play  9, 10, then that of the last move
+ *   panel 9
  */
 
 /* ---- The image ---------------------------------------------------------- */
@@ -227,6 +238,22 @@ uint32_t card_play(uint8_t *image, size_t image_length,
                    const uint8_t *moves, size_t moves_length,
                    const uint16_t *keys, size_t keys_length,
                    const uint8_t *randoms, size_t randoms_length);
+
+/*
+ * Turns the picture into the panel: each spot fills two by two dots, so dot
+ * (x, y) of the panel is spot (x / 2, y / 2) of the picture, for every x below
+ * 128 and y below 64. All 1,024 bytes are written, and nothing is read from
+ * them before. The picture is only read.
+ *
+ * The dot in column x of row y is
+ *   panel[CARD_PANEL_BYTES_A_ROW * y + x / 8] >> (7 - x % 8) & 1
+ *
+ * A picture of other than 256 bytes or a panel of other than 1,024 is
+ * CARD_LENGTH, and the panel is then as it came. No machine is needed: any 256
+ * bytes are a picture.
+ */
+uint32_t card_panel(const uint8_t *picture, size_t picture_length,
+                    uint8_t *panel, size_t panel_length);
 
 #ifdef __cplusplus
 }

@@ -26,6 +26,8 @@ struct desk {
     uint8_t guard_4[GUARD];
     uint64_t answer[CARD_ANSWER];
     uint8_t guard_5[GUARD];
+    uint8_t panel[CARD_PANEL];
+    uint8_t guard_6[GUARD];
 };
 
 static struct desk desk;
@@ -51,6 +53,7 @@ static void set_guards(void) {
     memset(desk.guard_3, GUARD_BYTE, GUARD);
     memset(desk.guard_4, GUARD_BYTE, GUARD);
     memset(desk.guard_5, GUARD_BYTE, GUARD);
+    memset(desk.guard_6, GUARD_BYTE, GUARD);
 }
 
 static void look_at_guard(const uint8_t *guard) {
@@ -69,6 +72,7 @@ static uint32_t after_call(uint32_t refusal) {
     look_at_guard(desk.guard_3);
     look_at_guard(desk.guard_4);
     look_at_guard(desk.guard_5);
+    look_at_guard(desk.guard_6);
     return refusal;
 }
 
@@ -120,6 +124,11 @@ static uint32_t play(const uint8_t *moves, const uint16_t *keys,
                                 desk.history, sizeof desk.history,
                                 moves, entries, keys, entries,
                                 randoms, entries));
+}
+
+static uint32_t fill_panel(void) {
+    return after_call(card_panel(desk.picture, sizeof desk.picture,
+                                 desk.panel, sizeof desk.panel));
 }
 
 /* ---- Looking at the machine --------------------------------------------- */
@@ -341,6 +350,13 @@ static void refusals(void) {
                                  desk.history, CARD_HISTORY_LEAST - 1)),
             CARD_LENGTH, "a history of 287 bytes");
 
+    refused(after_call(card_panel(desk.picture, sizeof desk.picture - 1,
+                                  desk.panel, sizeof desk.panel)),
+            CARD_LENGTH, "a picture of 255 bytes");
+    refused(after_call(card_panel(desk.picture, sizeof desk.picture,
+                                  desk.panel, sizeof desk.panel - 1)),
+            CARD_LENGTH, "a panel of 1,023 bytes");
+
     prepare(0x6000);
     desk.image[CARD_AT_DEPTH] = CARD_STACK + 1;
     remember();
@@ -385,11 +401,42 @@ static void one_place(void) {
     expect(desk.image[CARD_AT_V] == 1, "the first step stands");
 }
 
+/* ---- The card's own panel ----------------------------------------------- */
+
+static int spot(int x, int y) {
+    return desk.picture[CARD_BYTES_A_ROW * y + x / 8] >> (7 - x % 8) & 1;
+}
+
+static int dot(int x, int y) {
+    return desk.panel[CARD_PANEL_BYTES_A_ROW * y + x / 8] >> (7 - x % 8) & 1;
+}
+
+/* Draws the digit 0 in the upper left corner and shows it in dots. */
+static void the_panel(void) {
+    prepare(0xD005);
+    expect(step(0, 0) == CARD_DONE, "a drawing is accepted");
+    memset(desk.panel, 0x5A, sizeof desk.panel);
+    expect(fill_panel() == CARD_DONE, "the panel is filled");
+    for (int y = 0; y < CARD_PANEL_ROWS; y++) {
+        for (int x = 0; x < CARD_PANEL_COLUMNS; x++) {
+            expect(dot(x, y) == spot(x / 2, y / 2), "a dot is not its spot");
+        }
+    }
+    for (int y = 0; y < 11; y++) {
+        printf("dots %2d ", y);
+        for (int x = 0; x < 12; x++) {
+            putchar(dot(x, y) ? '#' : '.');
+        }
+        putchar('\n');
+    }
+}
+
 int main(void) {
     there_and_back();
     run_and_play();
     refusals();
     one_place();
+    the_panel();
     if (surprises > 0) {
         printf("%d surprises\n", surprises);
         return 1;

@@ -86,6 +86,13 @@ mod boundary {
             randoms: *const u8,
             randoms_length: usize,
         ) -> u32;
+
+        pub fn card_panel(
+            picture: *const u8,
+            picture_length: usize,
+            panel: *mut u8,
+            panel_length: usize,
+        ) -> u32;
     }
 }
 
@@ -229,6 +236,18 @@ pub fn play(
             keys.len(),
             randoms.as_ptr(),
             randoms.len(),
+        )
+    }
+}
+
+pub fn panel(picture: &[u8], panel: &mut [u8]) -> u32 {
+    // SAFETY: each pointer and length come from one slice.
+    unsafe {
+        boundary::card_panel(
+            picture.as_ptr(),
+            picture.len(),
+            panel.as_mut_ptr(),
+            panel.len(),
         )
     }
 }

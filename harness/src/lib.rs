@@ -3,6 +3,7 @@
 pub mod card;
 pub mod case;
 pub mod check;
+pub mod dots;
 pub mod engine;
 pub mod generate;
 pub mod guard;

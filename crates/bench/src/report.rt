@@ -124,6 +124,13 @@ fn write_refusal(outcome: Outcome) {
     io::print_decimal(1, text::number(outcome) as u64);
 }
 
+// What came of a panel, which hands back its outcome alone.
+pub fn panel(outcome: Outcome) {
+    io::write_all(1, b"panel");
+    write_refusal(outcome);
+    io::write_all(1, b"\n");
+}
+
 // What a call handed back.
 pub fn answer(card: Answer, sizes: Sizes, memory: &[u8], picture: &[u8], history: &[u8]) {
     let outcome = card.outcome;

@@ -13,6 +13,7 @@ use Rattle.rules.specs.World.{World, Answer, world}
 use Rattle.rules.specs.Load.{freshTrail, load}
 use Rattle.rules.specs.Call.{step, tick, back}
 use Rattle.rules.specs.Run.{run, play}
+use Rattle.panel.specs.Panel.{fits, panelRefusal, panelAfter, PanelOf}
 use Rattle.image.specs.Image.{imageSize, imageOf, machineOf, trailOf}
 
 pub record Card : Type 0 where
@@ -106,3 +107,9 @@ pub record Leaves (c : Card) (n : ℕ) (img mem pic his : List ℕ) : Type 0 whe
   pub memory : mem ≡ c .memory
   pub picture : pic ≡ c .picture
   pub history : his ≡ c .history
+
+-- the same of the panel, which is lent no image: its number, every byte, and of a panel that is filled every dot
+pub record LeavesPanel (n : ℕ) (picture before after : List ℕ) : Type 0 where
+  pub says : n ≡ panelRefusal picture before
+  pub bytes : after ≡ panelAfter picture before
+  pub dots : fits picture before ≡ true → PanelOf picture after

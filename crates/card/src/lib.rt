@@ -12,7 +12,7 @@ ghost use Rattle.rules.specs.Load as rules_load;
 ghost use Rattle.rules.specs.Call as rules_call;
 ghost use Rattle.rules.specs.Run as rules_run;
 ghost use Rattle.image.specs.Image.{imageSize};
-ghost use Rattle.card.specs.Card.{worldOf, whole, partly, shown, answers, answered, Leaves};
+ghost use Rattle.card.specs.Card.{worldOf, whole, partly, shown, answers, answered, Leaves, LeavesPanel};
 ghost use Rattle.card.specs.Card as spec;
 use rules::Outcome;
 use rules::Refusal;
@@ -366,4 +366,12 @@ pub extern "C" fn card_play(
         return 9;
     }
     play_in(image, memory, picture, history, moves, keys, randoms)
+}
+
+#[no_mangle]
+pub extern "C" fn card_panel(picture: &[u8], panel: &mut [u8]) -> u32
+    ensures { λ r. ⌜ LeavesPanel r (now (picture .entry)) (now (panel .entry)) (now (panel .exit)) ⌝ }
+{
+    let outcome = panel::panel(picture, panel);
+    number(outcome)
 }

@@ -2,6 +2,7 @@
 use bench::report;
 use bench::script::Line;
 use chip8::Answer;
+use rules::Outcome;
 
 fn load(program: &[u8], memory: &mut [u8], picture: &mut [u8], history: &mut [u8]) -> Answer {
     chip8::load(program, memory, picture, history)
@@ -86,6 +87,10 @@ fn play(
         keys,
         randoms,
     )
+}
+
+pub fn panel(picture: &[u8], panel: &mut [u8]) -> Outcome {
+    panel::panel(picture, panel)
 }
 
 // ---- a step on an instruction of the script's

@@ -12,7 +12,8 @@
 //   T   B   L NNNN         a tick, a step back, a load of so many bytes of the program
 //   R A B C   Y A B C      a run, a play, with lists of these lengths
 //   F NNNN KKKK   U NNNN   so many actions forward, steps back
-//   m g h AAAA NN          shows bytes of memory, the picture, the history
+//   G PPPP NNNN            the panel, with so many bytes of the picture and of the panel lent
+//   m g h k AAAA NN        shows bytes of memory, the picture, the history, the panel
 mod calls;
 
 use bench::card;
@@ -62,6 +63,24 @@ fn show(line: Line, memory: &[u8], picture: &[u8], history: &[u8]) {
         b'm' => report::show(b"memory", memory, line),
         b'g' => report::show(b"picture", picture, line),
         _ => report::show(b"history", history, line),
+    }
+}
+
+// The panel of as many bytes of the picture as the line says, in as many of the panel.
+fn fill(line: Line, picture: &[u8], panel: &mut [u8]) {
+    let a = card::within(line.size(1), picture);
+    let b = card::within(line.size(2), panel);
+    report::panel(calls::panel(&picture[..a], &mut panel[..b]));
+}
+
+// What a line does to the panel, which no machine is lent.
+fn use_panel(line: Line, picture: &[u8], panel: &mut [u8]) {
+    let letter = line.letter;
+    match letter {
+        b'#' => memory::clear(panel, 0),
+        b'G' => fill(line, picture, panel),
+        b'k' => report::show(b"panel", panel, line),
+        _ => {}
     }
 }
 
@@ -177,6 +196,7 @@ fn obey_all(
     bytes: &mut [u8],
     keys: &mut [u16],
     randoms: &mut [u8],
+    panel: &mut [u8],
 ) {
     let mut card = card::fresh();
     let mut sizes = Sizes::right();
@@ -186,6 +206,7 @@ fn obey_all(
         let end = line.end;
         sizes = sizes.after(line);
         set_lists(line, bytes, keys, randoms);
+        use_panel(line, picture, panel);
         card = obey(
             &text[at..end],
             line,
@@ -211,6 +232,7 @@ fn main() {
     let mut bytes = [0u8; 4097];
     let mut keys = [0u16; 4097];
     let mut randoms = [0u8; 4097];
+    let mut panel = [0u8; 1025];
     obey_all(
         &script[..size],
         &mut memory,
@@ -219,5 +241,6 @@ fn main() {
         &mut bytes,
         &mut keys,
         &mut randoms,
+        &mut panel,
     );
 }

@@ -1,5 +1,6 @@
 //! Steps a second of the card's archive, beside the hand-tuned engine and
-//! beside the floor: only clearing the 288 bytes of each action's record.
+//! beside the floor: only clearing the 288 bytes of each action's record. Then
+//! bytes a second of the panel, beside copying as many bytes.
 //!
 //! Everything is measured in one run, in turns, so that whatever else the
 //! computer does meets all of them alike.
@@ -8,11 +9,14 @@ use std::fmt;
 use std::hint::black_box;
 use std::time::Instant;
 
+use harness::card;
+use harness::dots::PANEL;
 use harness::engine::{Archive, Buffers, Engine, Tuned, ACCEPTED, ANSWER};
 use harness::second::{HISTORY_MOST, IMAGE, LIST_MOST, MEMORY, PICTURE, PLACE};
 
 const TURNS: usize = 25;
 const LISTS_A_TURN: usize = 10;
+const PANELS_A_TURN: usize = 20_000;
 /// The longest history, and a short one.
 const HISTORIES: [usize; 2] = [HISTORY_MOST, 8 * PLACE];
 
@@ -56,6 +60,7 @@ fn main() {
         print_runs(&measured);
         print_steps(&measured);
     }
+    print_panel();
 }
 
 fn print_runs(measured: &[(&str, Measured)]) {
@@ -85,6 +90,41 @@ fn print_steps(measured: &[(&str, Measured)]) {
             m.card_step, m.tuned_step, ""
         );
     }
+}
+
+/// The panel's line: a picture is turned again and again, with another byte
+/// changed each time.
+fn print_panel() {
+    let mut picture: Vec<u8> = (0..PICTURE).map(|at| (37 * at) as u8).collect();
+    let mut panel = vec![0; PANEL];
+    let given: Vec<u8> = (0..PANEL).map(|at| at as u8).collect();
+    let mut speeds: [Vec<f64>; 2] = Default::default();
+    for _ in 0..TURNS {
+        speeds[0].push(panels(|turn| {
+            picture[turn % PICTURE] ^= 1;
+            assert_eq!(card::panel(black_box(&picture), black_box(&mut panel)), 0);
+        }));
+        speeds[1].push(panels(|_| {
+            black_box(&mut panel).copy_from_slice(black_box(&given));
+        }));
+    }
+    let [turned, copied] = speeds.map(best_and_median);
+    println!("\nThe panel: millions of bytes a second");
+    println!("{:<16} | {:<16} | copy/card", "card_panel", "a copy");
+    let to_copy = copied.best / turned.best;
+    println!(
+        "{:>7.0} ({:>6.0}) | {:>7.0} ({:>6.0}) | {to_copy:>9.1}",
+        turned.best, turned.median, copied.best, copied.median
+    );
+}
+
+/// The speed of one turn of a function that writes a panel.
+fn panels(mut write: impl FnMut(usize)) -> f64 {
+    let start = Instant::now();
+    for turn in 0..PANELS_A_TURN {
+        write(turn);
+    }
+    (PANELS_A_TURN * PANEL) as f64 / start.elapsed().as_secs_f64() / 1e6
 }
 
 /// Millions of steps a second.

@@ -1,0 +1,119 @@
+# Read by ./trace and ./panel. Runs a program of the house on a CHIP-8 program: the proved one where it is built, and else the same
+# source without proof. They set root, the folder of the house, and program, the crate to run; introduce says what is shown where
+# no CHIP-8 program is named, and default is the one that is shown then.
+script=${0##*/}
+here=$(pwd)
+
+say() { printf '%s\n' "$*" >&2; }
+die() { say "$script: $*"; exit 2; }
+
+prove=no
+if [ "${1:-}" = --prove ]; then prove=yes; shift; fi
+case ${1:-} in
+-h | --help) sed -n '2,/^$/s/^# \{0,1\}//p' "$0" | sed '/^set /,$d'; exit 0 ;;
+esac
+[ $# -le 1 ] || die "one file at a time: ./$script FILE"
+
+# ---- the CHIP-8 program
+
+work=$(mktemp -d) || die "cannot make a temporary folder"
+trap 'rm -rf "$work"' EXIT
+trap 'exit 130' INT TERM
+if [ $# -eq 1 ] && [ "$1" != - ]; then
+    case $1 in /*) file=$1 ;; *) file=$here/$1 ;; esac
+    [ -e "$file" ] || die "there is no file $1"
+    [ ! -d "$file" ] || die "$1 is a folder and not a program"
+    [ -r "$file" ] || die "the file $1 cannot be read"
+elif [ $# -eq 1 ] || [ -p /dev/stdin ] || [ -f /dev/stdin ]; then
+    file=$work/stdin
+    cat >"$file"
+else
+    file=$root/programs/$default
+    introduce
+fi
+
+# ---- the toolchain
+
+rt=$(command -v rt 2>/dev/null) || rt=${RATTLE_HOME:+$RATTLE_HOME/bin/rt}
+[ -n "$rt" ] && [ -x "$rt" ] || die "the Rattle toolchain is not here: its command, rt, must be on the PATH, or RATTLE_HOME be the folder of the kit"
+kit=$(dirname "$("$rt" doc)")
+kit=${RATTLE_HOME:-$(cd "$kit/.." && pwd)}
+tools=$kit/on/$(uname -m)/toolchain
+
+# ---- the program, proved or not
+
+built=$root/target/bin/$program
+
+# The crates that the program is made of, found in as many turns as they lie deep.
+crates=$program
+for _ in 1 2 3 4 5 6 7 8; do
+    crates=$(for c in $crates; do echo "$c"; sed -n "s/^$c: *//p" "$root/crates.txt" | tr ' ' '\n'; done | sort -u)
+done
+
+# Whether the proved program is there, and no file that it was made of is newer.
+current() {
+    [ -x "$built" ] || return 1
+    for c in $crates; do
+        [ ! -d "$root/crates/$c" ] || [ -z "$(find "$root/crates/$c" -newer "$built" -type f | head -n 1)" ] || return 1
+    done
+}
+
+# Programs are for x86-64. On another machine the kit brings an emulator, and else one must be installed.
+find_emulator() {
+    emulator=''
+    if [ -x "$tools/bin/qemu-x86_64" ]; then
+        emulator=$tools/bin/qemu-x86_64
+    elif [ "$(uname -m)" != x86_64 ]; then
+        if ! command -v qemu-x86_64 >/dev/null 2>&1 && [ "$(id -u)" = 0 ] && command -v apt-get >/dev/null 2>&1; then
+            say "$script: installing qemu-user, since programs are for x86-64 and this machine is $(uname -m)"
+            apt-get install -y qemu-user >/dev/null 2>&1
+        fi
+        emulator=$(command -v qemu-x86_64) || die "programs are for x86-64 and this machine is $(uname -m): install qemu-user, which has qemu-x86_64"
+    fi
+}
+
+run_proved() {
+    find_emulator
+    loader=$tools/lib/ld-linux-x86-64.so.2
+    if [ -f "$loader" ]; then
+        ${emulator:+"$emulator"} "$loader" --library-path "$tools/lib" "$built" <"$file"
+    else
+        ${emulator:+"$emulator"} "$built" <"$file"
+    fi
+}
+
+# A byte that rt names in hex, as \xE2, in octal, which every printf knows.
+octal() {
+    awk 'function digit(c) { return index("0123456789abcdef", c) - 1 }
+    {
+        while (match($0, /\\x[0-9a-f][0-9a-f]/)) {
+            n = 16 * digit(substr($0, RSTART + 2, 1)) + digit(substr($0, RSTART + 3, 1))
+            $0 = substr($0, 1, RSTART - 1) sprintf("\\0%03o", n) substr($0, RSTART + 4)
+        }
+        print
+    }'
+}
+
+# Runs a copy of the sources whose input is the file. rt runs a program without proof only to compare what it writes with what is
+# expected, and shows the next 200 bytes where there is more: so these are expected in the next turn, until nothing is missing.
+run_unproved() {
+    say "$script: the proved program is not built yet, so this runs the same source without proof. ./$script --prove proves it first"
+    trial=$work/crates/$program
+    mkdir "$work/crates" && cp "$root/crates.txt" "$work/" || die "cannot copy the sources"
+    for crate in "$root"/crates/*; do [ "${crate##*/}" = "$program" ] || ln -s "$crate" "$work/crates/"; done
+    mkdir "$trial" && cp -R "$root/crates/$program/src" "$trial/" && cp "$file" "$trial/stdin" || die "cannot copy the sources"
+    : >"$trial/stdout"
+    until (cd "$work" && "$rt" try "$program") >"$work/said" 2>&1; do
+        more=$(sed -n 's/^on standard output, at byte [0-9]*, expected "", found "\([^"]*\)".*/\1/p' "$work/said" | head -n 1)
+        [ -n "$more" ] || { cat "$work/said" >&2; die "the program did not compile or run"; }
+        printf '%b' "$(printf '%s\n' "$more" | octal)" | tee -a "$trial/stdout"
+    done
+}
+
+if [ "$prove" = yes ] && ! current; then
+    say "$script: proving the machine and the program: three to four minutes from nothing, less where a part is proved already"
+    { (cd "$root" && "$rt" check "$program") 2>&1; echo $? >"$work/ended"; } | grep --line-buffered '^rt: ' >&2
+    [ "$(cat "$work/ended")" = 0 ] || die "it is not proved: 'rt check $program' says why"
+    touch "$built"
+fi
+if current; then run_proved; else run_unproved; fi

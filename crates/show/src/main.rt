@@ -1,0 +1,44 @@
+// Reads a program from standard input, runs it for 64 steps with no ticks, no keys and random byte 00, as the trace does, and shows
+// its picture in block characters, two rows of spots to a line. The last line says why it stopped, and where.
+mod blocks;
+
+use chip8::Ran;
+use rules::Machine;
+
+// A program loaded and run. A refused load is a run of no step.
+fn run(program: &[u8], picture: &mut [u8]) -> Ran {
+    let mut memory = [0u8; Machine::MEMORY];
+    let mut history = [0u8; history::PLACE];
+    let start = chip8::load(program, &mut memory, picture, &mut history);
+    let outcome = start.outcome;
+    let machine = start.machine;
+    let trail = start.trail;
+    if text::number(outcome) != 0 {
+        return Ran {
+            accepted: 0,
+            outcome,
+            machine,
+            trail,
+        };
+    }
+    chip8::run(
+        machine,
+        trail,
+        &mut memory,
+        picture,
+        &mut history,
+        &[0u8; 64],
+        &[0u16; 64],
+        &[0u8; 64],
+    )
+}
+
+fn main() {
+    // One byte more than the longest program, so that a longer input is seen to be too long.
+    let mut input = [0u8; 3585];
+    let size = io::read_full(0, &mut input);
+    let mut picture = [0u8; Machine::PICTURE];
+    let ran = run(&input[..size], &mut picture);
+    blocks::write(&picture);
+    blocks::write_stop(ran);
+}
