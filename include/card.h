@@ -60,7 +60,8 @@
  *   card_step(image, sizeof image, memory, sizeof memory, picture,
  *             sizeof picture, history, sizeof history, 0, 0, answer,
  *             CARD_ANSWER);
- *   (image[CARD_AT_V] is 5 now, and answer[CARD_ACCEPTED] is 1)
+ *   (image[CARD_AT_V] is 5 now, and answer[CARD_ACCEPTED] is 1; nothing was
+ *   drawn, so answer[CARD_WENT_DARK] is 0)
  *   card_back(image, sizeof image, memory, sizeof memory, picture,
  *             sizeof picture, history, sizeof history);
  *   (image[CARD_AT_V] is 0 again, and PC is 0200)
@@ -149,8 +150,9 @@ enum card_refusal {
 
 /* ---- The answer of a step and of a run ---------------------------------- */
 
-/* The number of accepted steps. The other three numbers are 0. */
-#define CARD_ACCEPTED 0
+/* Where each number stands. The two after these are for later use and 0. */
+#define CARD_ACCEPTED 0  /* how many steps were accepted */
+#define CARD_WENT_DARK 1 /* how many lit spots their drawings darkened */
 
 /* ---- The calls ---------------------------------------------------------- */
 
@@ -175,6 +177,11 @@ uint32_t card_load(const uint8_t *program, size_t program_length,
  * several steps: one until a key is down, one until that key is up again.
  *
  * answer[CARD_ACCEPTED] is 1 if the step was accepted, otherwise 0.
+ *
+ * answer[CARD_WENT_DARK] is how many lit spots a drawing (DXYN) darkened, 0 to
+ * 120, for games that score by touches. Spots that are dropped at the right or
+ * the bottom edge do not count. VF only says whether the number is above 0. It
+ * is 0 for every other instruction, for 00E0 too, and for a refused step.
  */
 uint32_t card_step(uint8_t *image, size_t image_length,
                    uint8_t *memory, size_t memory_length,
@@ -207,7 +214,10 @@ uint32_t card_back(uint8_t *image, size_t image_length,
  * refused step ends the run, and its number is returned; all actions before
  * it stand, the ticks of its own entry included.
  *
- * answer[CARD_ACCEPTED] is the number of accepted steps.
+ * answer[CARD_ACCEPTED] is the number of accepted steps, and
+ * answer[CARD_WENT_DARK] the sum of the spots that each of them darkened. Ticks
+ * add nothing. When a refused step ends the run, both speak of the steps before
+ * it; when the run itself is refused, both are 0.
  */
 uint32_t card_run(uint8_t *image, size_t image_length,
                   uint8_t *memory, size_t memory_length,

@@ -211,7 +211,11 @@ static void there_and_back(void) {
         accepted_step(0);
     }
     show_rows(29, 31);
-    for (int count = 0; count < 7; count++) {
+    expect(desk.answer[CARD_WENT_DARK] == 0, "the picture was dark before");
+    accepted_step(0);
+    printf("%u spots went dark\n", (unsigned)desk.answer[CARD_WENT_DARK]);
+    expect(desk.answer[CARD_WENT_DARK] == 5, "five spots of E were shown");
+    for (int count = 0; count < 6; count++) {
         accepted_step(0);
     }
     show_rows(29, 31);
@@ -259,6 +263,7 @@ static void run_and_play(void) {
            number(CARD_AT_PC));
     expect(refusal == CARD_MACHINE_LANGUAGE, "the run ends at 00FD");
     expect(desk.answer[CARD_ACCEPTED] == 4, "four steps come before 00FD");
+    expect(desk.answer[CARD_WENT_DARK] == 0, "nothing was drawn");
     expect(desk.image[CARD_AT_V] == 0x0A, "5 and 3 and 2 is 10");
 
     refusal = play(moves, no_keys, zeros, sizeof moves);
@@ -269,7 +274,19 @@ static void run_and_play(void) {
     expect(number(CARD_AT_PC) == 0x0206, "the play ends before 8014");
     expect(number(CARD_AT_KEPT) == 3, "the play leaves three actions");
 
+    load(PROGRAM, sizeof PROGRAM);
+    refusal = run(zeros, no_keys, zeros, 7);
+    printf("run: %u steps accepted, %u spots went dark\n",
+           (unsigned)desk.answer[CARD_ACCEPTED],
+           (unsigned)desk.answer[CARD_WENT_DARK]);
+    expect(refusal == CARD_DONE, "no step of this run is refused");
+    expect(desk.answer[CARD_WENT_DARK] == 5,
+           "a run answers for all its drawings, not for its last step");
+    expect(desk.answer[2] == 0 && desk.answer[3] == 0,
+           "the last two numbers are for later use");
+
     expect(run(zeros, no_keys, zeros, 0) == CARD_DONE, "an empty run is done");
+    expect(desk.answer[CARD_WENT_DARK] == 0, "an empty run darkens nothing");
     expect(play(zeros, no_keys, zeros, 0) == CARD_DONE,
            "an empty play is done");
 }

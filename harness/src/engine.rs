@@ -7,6 +7,8 @@ use crate::{card, tuned};
 pub const ANSWER: usize = 4;
 /// Where a step and a run write the number of accepted steps.
 pub const ACCEPTED: usize = 0;
+/// Where they write how many lit spots went dark.
+pub const WENT_DARK: usize = 1;
 
 /// The four buffers that a host lends to a call.
 pub struct Buffers<'a> {
@@ -160,8 +162,11 @@ impl Engine for Second {
         answer.fill(0);
         with_machine(b, WRONG_LENGTH, |machine, lent| {
             let outcome = second::step(machine, lent, keys, random);
-            answer[ACCEPTED] = u64::from(outcome.is_ok());
-            number(outcome)
+            if let Ok(went_dark) = outcome {
+                answer[ACCEPTED] = 1;
+                answer[WENT_DARK] = went_dark;
+            }
+            number(outcome.map(drop))
         })
     }
     fn tick(&self, b: Buffers) -> u32 {
@@ -187,9 +192,10 @@ impl Engine for Second {
         }
         answer.fill(0);
         with_machine(b, WRONG_LENGTH, |machine, lent| {
-            let (accepted, outcome) = second::run(machine, lent, ticks, keys, randoms);
-            answer[ACCEPTED] = accepted;
-            number(outcome)
+            let ran = second::run(machine, lent, ticks, keys, randoms);
+            answer[ACCEPTED] = ran.accepted;
+            answer[WENT_DARK] = ran.went_dark;
+            number(ran.outcome)
         })
     }
     fn play(&self, b: Buffers, moves: &[u8], keys: &[u16], randoms: &[u8]) -> u32 {

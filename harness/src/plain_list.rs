@@ -128,7 +128,7 @@ impl PlainList {
     fn step(&mut self, keys: u16, random: u8) -> u32 {
         let stepped = self
             .last()
-            .after(|machine, lent| second::step(machine, lent, keys, random));
+            .after(|machine, lent| second::step(machine, lent, keys, random).map(drop));
         self.add(stepped)
     }
 

@@ -293,29 +293,31 @@ fn bytes_needed(instruction: &Instruction) -> usize {
     }
 }
 
-pub fn step(machine: &mut Machine, lent: &mut Lent, keys: u16, random: u8) -> Result<(), Refusal> {
+/// Answers how many lit spots went dark.
+pub fn step(machine: &mut Machine, lent: &mut Lent, keys: u16, random: u8) -> Result<u64, Refusal> {
     test_lengths(lent)?;
     test_state(machine, lent.history)?;
     let instruction = instruction_at(machine.pc, lent.memory)?;
     test_possible(&instruction, machine)?;
 
     write_record(machine, lent, old_bytes(&instruction, machine));
-    execute(&instruction, machine, lent, keys, random);
-    Ok(())
+    Ok(execute(&instruction, machine, lent, keys, random))
 }
 
-/// Everything is read from `old`, so no operand is read after a write.
+/// Everything is read from `old`, so no operand is read after a write. Answers
+/// how many lit spots went dark, which is 0 for all but a drawing.
 fn execute(
     instruction: &Instruction,
     machine: &mut Machine,
     lent: &mut Lent,
     keys: u16,
     random: u8,
-) {
+) -> u64 {
     let old = machine.clone();
     let key_down = |key: u8| keys >> key & 1 == 1;
     let at_i = usize::from(old.i);
 
+    let mut went_dark = 0;
     machine.pc = old.pc + 2;
     machine.wait = None;
     let mut skip_if = |condition: bool| {
@@ -415,27 +417,30 @@ fn execute(
             let column = usize::from(old.v[x]) % COLUMNS;
             let row = usize::from(old.v[y]) % ROWS;
             let pattern = &lent.memory[at_i..at_i + n];
-            let lit_went_dark = draw(lent.picture, column, row, pattern);
-            machine.v[0xF] = u8::from(lit_went_dark);
+            went_dark = draw(lent.picture, column, row, pattern);
+            machine.v[0xF] = u8::from(went_dark > 0);
         }
     }
+    went_dark
 }
 
 /// Turns over one spot for each 1 bit; spots past an edge are dropped.
-/// Answers whether a lit spot went dark.
-fn draw(picture: &mut [u8], column: usize, row: usize, pattern: &[u8]) -> bool {
-    let mut lit_went_dark = false;
+/// Answers how many lit spots went dark.
+fn draw(picture: &mut [u8], column: usize, row: usize, pattern: &[u8]) -> u64 {
+    let mut went_dark = 0;
     for (down, byte) in pattern.iter().enumerate() {
         for right in 0..8 {
             let bit = byte >> (7 - right) & 1;
             let (spot_column, spot_row) = (column + right, row + down);
             if bit == 1 && spot_column < COLUMNS && spot_row < ROWS {
                 let was_lit = turn_over(picture, spot_column, spot_row);
-                lit_went_dark = lit_went_dark || was_lit;
+                if was_lit {
+                    went_dark += 1;
+                }
             }
         }
     }
-    lit_went_dark
+    went_dark
 }
 
 /// Turns one spot over and answers whether it was lit.
@@ -467,32 +472,48 @@ pub fn tick(machine: &mut Machine, history: &mut [u8]) -> Result<(), Refusal> {
     Ok(())
 }
 
-/// Answers the number of accepted steps beside the refusal.
+/// What a run answers.
+pub struct Ran {
+    pub accepted: u64,
+    /// The sum over the accepted steps of the lit spots that went dark.
+    pub went_dark: u64,
+    pub outcome: Result<(), Refusal>,
+}
+
 pub fn run(
     machine: &mut Machine,
     lent: &mut Lent,
     ticks: &[u8],
     keys: &[u16],
     randoms: &[u8],
-) -> (u64, Result<(), Refusal>) {
-    let fits = test_lengths(lent)
+) -> Ran {
+    let mut ran = Ran {
+        accepted: 0,
+        went_dark: 0,
+        outcome: Ok(()),
+    };
+    ran.outcome = test_lengths(lent)
         .and_then(|()| test_lists(ticks, keys, randoms))
         .and_then(|()| test_state(machine, lent.history));
-    if fits.is_err() {
-        return (0, fits);
+    if ran.outcome.is_err() {
+        return ran;
     }
-    let mut accepted = 0;
     for entry in 0..ticks.len() {
         for _ in 0..ticks[entry] {
             tick(machine, lent.history).expect("a tick of a run is never refused");
         }
-        let outcome = step(machine, lent, keys[entry], randoms[entry]);
-        if outcome.is_err() {
-            return (accepted, outcome);
+        match step(machine, lent, keys[entry], randoms[entry]) {
+            Ok(went_dark) => {
+                ran.accepted += 1;
+                ran.went_dark += went_dark;
+            }
+            Err(refusal) => {
+                ran.outcome = Err(refusal);
+                return ran;
+            }
         }
-        accepted += 1;
     }
-    (accepted, Ok(()))
+    ran
 }
 
 pub const MOVE_STEP: u8 = 0;
@@ -514,7 +535,7 @@ pub fn play(
     let mut last = Ok(());
     for entry in 0..moves.len() {
         last = match moves[entry] {
-            MOVE_STEP => step(machine, lent, keys[entry], randoms[entry]),
+            MOVE_STEP => step(machine, lent, keys[entry], randoms[entry]).map(drop),
             MOVE_TICK => tick(machine, lent.history),
             _ => back(machine, lent),
         };

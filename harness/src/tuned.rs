@@ -106,6 +106,9 @@ struct Work {
     stack: [u16; 16],
     next: usize,
     kept: usize,
+    /// Lit spots that the steps so far have darkened. Only a drawing adds to it,
+    /// so other steps do no work for it.
+    went_dark: u64,
 }
 
 fn number(bytes: &[u8], at: usize) -> u16 {
@@ -145,6 +148,7 @@ impl Work {
             stack,
             next,
             kept,
+            went_dark: 0,
         })
     }
 
@@ -312,7 +316,7 @@ impl Work {
                     head.mark(b"DI", 8 * row, 8 * shown);
                     let old = self.record(places, &head);
                     let rows = &mut picture.as_chunks_mut::<8>().0[row..row + shown];
-                    let mut dark = 0;
+                    let mut went_dark = 0;
                     for ((spots, byte), kept) in
                         rows.iter_mut().zip(pattern).zip(old.as_chunks_mut().0)
                     {
@@ -320,9 +324,10 @@ impl Work {
                         let bits = u64::from(*byte) << 56 >> column;
                         *kept = *spots;
                         *spots = (before ^ bits).to_be_bytes();
-                        dark |= before & bits;
+                        went_dark += (before & bits).count_ones();
                     }
-                    self.v.set_flag(dark != 0);
+                    self.went_dark += u64::from(went_dark);
+                    self.v.set_flag(went_dark != 0);
                     self.pc = pc;
                     self.held = NO_KEY;
                     return 0;
@@ -570,6 +575,7 @@ pub fn step(
     if refusal == 0 {
         work.write(image);
         answer[0] = 1;
+        answer[1] = work.went_dark;
     }
     refusal
 }
@@ -648,6 +654,7 @@ pub fn run(
     }
     work.write(image);
     answer[0] = accepted;
+    answer[1] = work.went_dark;
     refusal
 }
 

@@ -2,13 +2,15 @@
 //! requests that have landed, on every engine.
 
 use harness::case::Host;
-use harness::engine::{Archive, Buffers, Engine, Second, Tuned, ACCEPTED, ANSWER};
+use harness::engine::{Archive, Buffers, Engine, Second, Tuned, ACCEPTED, ANSWER, WENT_DARK};
 use harness::second::{Machine, IMAGE, MEMORY, PICTURE, PLACE};
 
 /// A host with an engine, its machine taken apart for easy reading.
 struct Desk<'a> {
     engine: &'a dyn Engine,
     host: Host,
+    /// How many lit spots the last step darkened.
+    went_dark: u64,
 }
 
 fn on_every_engine(case: impl Fn(&dyn Engine)) {
@@ -28,6 +30,7 @@ impl Desk<'_> {
                 picture: vec![0; PICTURE],
                 history: vec![0; places * PLACE],
             },
+            went_dark: 0,
         };
         let program: Vec<u8> = words.iter().flat_map(|word| word.to_be_bytes()).collect();
         assert_eq!(engine.load(desk.buffers(), &program), 0);
@@ -53,10 +56,12 @@ impl Desk<'_> {
         let engine = self.engine;
         let before = self.host.clone();
         let refusal = engine.step(self.buffers(), keys, 0, &mut answer);
+        self.went_dark = answer[WENT_DARK];
         assert_eq!(answer[ACCEPTED], u64::from(refusal == 0));
-        assert_eq!(answer[1..], [0; 3]);
+        assert_eq!(answer[2..], [0; 2]);
         if refusal != 0 {
             assert_eq!(self.host, before, "a refused step changes nothing");
+            assert_eq!(self.went_dark, 0, "a refused step darkens nothing");
         }
         refusal
     }
@@ -68,6 +73,23 @@ impl Desk<'_> {
     fn back(&mut self) -> u32 {
         let engine = self.engine;
         engine.back(self.buffers())
+    }
+
+    /// One accepted drawing: VF and the number that it answers agree.
+    fn draw(&mut self) -> u64 {
+        assert_eq!(self.step(), 0);
+        let flag = self.machine().v[15];
+        assert_eq!(flag, u8::from(self.went_dark > 0));
+        self.went_dark
+    }
+
+    /// A run with no key down. Answers the refusal and all four numbers.
+    fn run(&mut self, ticks: &[u8]) -> (u32, [u64; ANSWER]) {
+        let mut answer = [7; ANSWER];
+        let engine = self.engine;
+        let (keys, randoms) = (vec![0; ticks.len()], vec![0; ticks.len()]);
+        let refusal = engine.run(self.buffers(), ticks, &keys, &randoms, &mut answer);
+        (refusal, answer)
     }
 
     fn tick(&mut self) -> u32 {
@@ -83,6 +105,7 @@ fn one_step(word: u16, before: impl Fn(&mut Machine), after: impl Fn(&Machine)) 
         desk.change(&before);
         let start = desk.host.clone();
         assert_eq!(desk.step(), 0, "{} at {word:04X}", engine.name());
+        assert_eq!(desk.went_dark, 0, "on a dark picture nothing goes dark");
         after(&desk.machine());
         assert_eq!(desk.back(), 0);
         assert_eq!(desk.host.image, start.image);
@@ -245,6 +268,110 @@ fn dropped_rows_count_for_the_end_of_memory() {
 }
 
 #[test]
+fn a_drawing_answers_how_many_spots_went_dark() {
+    on_every_engine(|engine| {
+        let mut desk = Desk::new(engine, &[0xD013, 0xD013, 0xA55A, 0xC300], 2);
+        desk.change(|m| (m.v[0], m.v[1], m.i) = (5, 3, 0x0204));
+        assert_eq!(desk.draw(), 0, "the picture was dark");
+        assert_eq!(desk.draw(), 12, "all that was drawn goes dark again");
+        assert_eq!(desk.host.picture, [0; PICTURE]);
+    });
+    on_every_engine(|engine| {
+        let mut desk = Desk::new(engine, &[0xD011, 0x3C00], 1);
+        desk.change(|m| m.i = 0x0202);
+        desk.host.picture[0] = 0xF0;
+        assert_eq!(desk.draw(), 2, "two of four spots were lit");
+        assert_eq!(desk.host.picture[0], 0xCC);
+    });
+}
+
+/// One drawing of fifteen full rows, or fewer, on a picture that is all lit.
+fn drawn_on_a_lit_picture(engine: &dyn Engine, column: u8, row: u8, n: u16) -> u64 {
+    let mut words = vec![0xD010 | n];
+    words.extend([0xFFFF; 8]);
+    let mut desk = Desk::new(engine, &words, 1);
+    desk.change(|m| (m.v[0], m.v[1], m.i) = (column, row, 0x0202));
+    desk.host.picture.fill(0xFF);
+    desk.draw()
+}
+
+#[test]
+fn at_most_120_spots_go_dark() {
+    on_every_engine(|engine| {
+        assert_eq!(drawn_on_a_lit_picture(engine, 0, 0, 15), 120);
+        assert_eq!(drawn_on_a_lit_picture(engine, 0x38, 0x11, 15), 120);
+        assert_eq!(drawn_on_a_lit_picture(engine, 3, 7, 1), 8);
+        assert_eq!(drawn_on_a_lit_picture(engine, 3, 7, 0), 0);
+    });
+}
+
+#[test]
+fn dropped_spots_do_not_count() {
+    on_every_engine(|engine| {
+        assert_eq!(drawn_on_a_lit_picture(engine, 0x39, 0, 1), 7);
+        assert_eq!(drawn_on_a_lit_picture(engine, 0x3F, 0, 1), 1);
+        assert_eq!(drawn_on_a_lit_picture(engine, 0, 0x12, 15), 112);
+        assert_eq!(drawn_on_a_lit_picture(engine, 0, 0x1F, 15), 8);
+        assert_eq!(drawn_on_a_lit_picture(engine, 0x3F, 0x1F, 15), 1);
+    });
+}
+
+#[test]
+fn only_an_accepted_drawing_answers_a_number() {
+    on_every_engine(|engine| {
+        let mut desk = Desk::new(engine, &[0x00E0], 1);
+        desk.host.picture.fill(0xFF);
+        assert_eq!(desk.step(), 0);
+        assert_eq!(desk.went_dark, 0, "clearing is no drawing");
+    });
+    on_every_engine(|engine| {
+        let mut desk = Desk::new(engine, &[0xD012], 1);
+        desk.change(|m| m.i = 0x0FFF);
+        desk.host.picture.fill(0xFF);
+        assert_eq!(desk.step(), 6);
+    });
+}
+
+#[test]
+fn a_run_sums_what_its_steps_darkened() {
+    // Twelve spots are drawn and erased twice; then a step is refused.
+    let words = [0xD012, 0xD012, 0xD012, 0xD012, 0x00FD, 0xFF0F];
+    let cases: [(&[u8], u32, [u64; ANSWER]); 5] = [
+        (&[], 0, [0, 0, 0, 0]),
+        (&[0], 0, [1, 0, 0, 0]),
+        (&[0, 3], 0, [2, 12, 0, 0]),
+        (&[0, 3, 0, 1], 0, [4, 24, 0, 0]),
+        (&[0, 3, 0, 1, 2, 9], 3, [4, 24, 0, 0]),
+    ];
+    on_every_engine(|engine| {
+        for (ticks, refusal, answer) in cases {
+            let mut desk = Desk::new(engine, &words, 3);
+            desk.change(|m| (m.i, m.delay) = (0x020A, 5));
+            assert_eq!(desk.run(ticks), (refusal, answer), "{}", engine.name());
+        }
+    });
+}
+
+#[test]
+fn the_answer_is_written_whole_or_left_alone() {
+    on_every_engine(|engine| {
+        let mut desk = Desk::new(engine, &[0xD011], 1);
+        desk.host.picture.fill(0xFF);
+        let before = desk.host.clone();
+        for length in [0, 1, 3, 5] {
+            let mut answer = vec![7; length];
+            assert_eq!(engine.step(desk.buffers(), 0, 0, &mut answer), 9);
+            assert_eq!(engine.run(desk.buffers(), &[0], &[0], &[0], &mut answer), 9);
+            assert_eq!(answer, vec![7; length]);
+            assert_eq!(desk.host, before);
+        }
+        desk.host.picture.pop();
+        assert_eq!(desk.step(), 9);
+        assert_eq!(desk.run(&[0]), (9, [0; ANSWER]));
+    });
+}
+
+#[test]
 fn a_jump_may_leave_memory() {
     on_every_engine(|engine| {
         let mut desk = Desk::new(engine, &[0xBFFF], 1);
@@ -327,10 +454,7 @@ fn what_is_not_listed() {
 fn the_trace_as_a_run() {
     on_every_engine(|engine| {
         let mut desk = Desk::new(engine, &[0x6005, 0x7003, 0x6102, 0x8014, 0x00FD], 2);
-        let mut answer = [7; ANSWER];
-        let zeros = [0; 64];
-        let refusal = engine.run(desk.buffers(), &zeros, &[0; 64], &zeros, &mut answer);
-        assert_eq!((refusal, answer), (3, [4, 0, 0, 0]));
+        assert_eq!(desk.run(&[0; 64]), (3, [4, 0, 0, 0]));
         assert_eq!((desk.machine().v[0], desk.machine().pc), (0x0A, 0x0208));
     });
 }
@@ -340,9 +464,7 @@ fn ticks_before_a_refused_step_stand() {
     on_every_engine(|engine| {
         let mut desk = Desk::new(engine, &[0x00FD], 5);
         desk.change(|m| (m.delay, m.tone) = (9, 1));
-        let mut answer = [7; ANSWER];
-        let refusal = engine.run(desk.buffers(), &[3], &[0], &[0], &mut answer);
-        assert_eq!((refusal, answer), (3, [0; ANSWER]));
+        assert_eq!(desk.run(&[3]), (3, [0; ANSWER]));
         let machine = desk.machine();
         assert_eq!((machine.delay, machine.tone, machine.kept), (6, 0, 3));
         assert_eq!(desk.back(), 0);
