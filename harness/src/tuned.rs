@@ -316,7 +316,9 @@ impl Work {
                     head.mark(b"DI", 8 * row, 8 * shown);
                     let old = self.record(places, &head);
                     let rows = &mut picture.as_chunks_mut::<8>().0[row..row + shown];
-                    let mut went_dark = 0;
+                    // A byte for each row: its spots that were lit under a 1
+                    // bit. So all fifteen rows are counted at once.
+                    let mut met = 0u128;
                     for ((spots, byte), kept) in
                         rows.iter_mut().zip(pattern).zip(old.as_chunks_mut().0)
                     {
@@ -324,10 +326,11 @@ impl Work {
                         let bits = u64::from(*byte) << 56 >> column;
                         *kept = *spots;
                         *spots = (before ^ bits).to_be_bytes();
-                        went_dark += (before & bits).count_ones();
+                        let under = (before << column >> 56) as u8;
+                        met = met << 8 | u128::from(under & byte);
                     }
-                    self.went_dark += u64::from(went_dark);
-                    self.v.set_flag(went_dark != 0);
+                    self.went_dark += u64::from(met.count_ones());
+                    self.v.set_flag(met != 0);
                     self.pc = pc;
                     self.held = NO_KEY;
                     return 0;
