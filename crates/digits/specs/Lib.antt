@@ -1,0 +1,2 @@
+-- What the inner function asks of a table.
+pub mod Table
