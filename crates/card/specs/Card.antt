@@ -13,6 +13,7 @@ use Rattle.rules.specs.World.{World, Answer, world}
 use Rattle.rules.specs.Load.{freshTrail, load}
 use Rattle.rules.specs.Call.{step, tick, back}
 use Rattle.rules.specs.Run.{run, play}
+use Rattle.rules.specs.Dark.{stepDark, runDark}
 use Rattle.panel.specs.Panel.{fits, panelRefusal, panelAfter, PanelOf}
 use Rattle.image.specs.Image.{imageSize, imageOf, machineOf, trailOf}
 
@@ -87,17 +88,24 @@ cardPlay moves keys randoms image memory picture history =
     pick (sized image) (partly image (play moves keys randoms (worldOf image memory picture history)))
     (untouched (numberOf BufferLength) image memory picture history)
 
--- ---- the answer's four numbers: the number of accepted steps, and three that are kept for what is to come
+-- ---- the answer's four numbers: how many steps were accepted, how many spots they darkened, and two that are kept for what is to come
 
 abbrev pub answers : List ℕ → Bool
 answers answer = eqb (length answer) 4
 
-abbrev pub answered : ℕ → List ℕ → List ℕ
-answered n answer = pick (answers answer) (n ∷ 0 ∷ 0 ∷ 0 ∷ []) answer
+abbrev pub answered : ℕ → ℕ → List ℕ → List ℕ
+answered accepted dark answer = pick (answers answer) (accepted ∷ dark ∷ 0 ∷ 0 ∷ []) answer
+
+unfoldable pub stepWentDark : List ℕ → List ℕ → List ℕ → List ℕ → ℕ
+stepWentDark image memory picture history = pick (sized image) (stepDark (worldOf image memory picture history)) 0
 
 unfoldable pub runAccepted : List ℕ → List ℕ → List ℕ → List ℕ → List ℕ → List ℕ → List ℕ → ℕ
 runAccepted ticks keys randoms image memory picture history =
     pick (sized image) ((run ticks keys randoms (worldOf image memory picture history)) .accepted) 0
+
+unfoldable pub runWentDark : List ℕ → List ℕ → List ℕ → List ℕ → List ℕ → List ℕ → List ℕ → ℕ
+runWentDark ticks keys randoms image memory picture history =
+    pick (sized image) (runDark ticks keys randoms (worldOf image memory picture history)) 0
 
 -- ---- the promise: what a call leaves is what the definition says, part by part
 

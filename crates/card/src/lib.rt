@@ -11,6 +11,7 @@ ghost use Rattle.rules.specs.Refusal as refusal;
 ghost use Rattle.rules.specs.Load as rules_load;
 ghost use Rattle.rules.specs.Call as rules_call;
 ghost use Rattle.rules.specs.Run as rules_run;
+ghost use Rattle.rules.specs.Dark as dark;
 ghost use Rattle.image.specs.Image.{imageSize};
 ghost use Rattle.card.specs.Card.{worldOf, whole, partly, shown, answers, answered, Leaves, LeavesPanel};
 ghost use Rattle.card.specs.Card as spec;
@@ -50,15 +51,21 @@ fn number(o: Outcome) -> u32
 }
 
 // All four numbers of an answer; one of another length is left alone.
-fn put_answer(answer: &mut [u64], n: u64)
-    ensures { λ _. ⌜ now (answer .exit) ≡ answered n (now (answer .entry)) ⌝ }
+fn put_answer(answer: &mut [u64], accepted: u64, dark: u64)
+    ensures { λ _. ⌜ now (answer .exit) ≡ answered accepted dark (now (answer .entry)) ⌝ }
 {
     if answer.len() == ANSWER {
-        answer[0] = n;
-        answer[1] = 0;
+        answer[0] = accepted;
+        answer[1] = dark;
         answer[2] = 0;
         answer[3] = 0;
     }
+}
+
+// What a step tells: its refusal number, and how many lit spots it darkened.
+struct Told {
+    number: u32,
+    dark: u64,
 }
 
 // ---- the calls on an image of the right length
@@ -91,13 +98,15 @@ fn step_in(
     history: &mut [u8],
     keys: u16,
     random: u8,
-) -> u32
+) -> Told
     requires { ⌜ length (now image) ≡ imageSize ⌝ }
     ensures { λ r. ⌜ Leaves
         (whole (now (image .entry))
         (rules_call.step keys random
-        (worldOf (now (image .entry)) (now (memory .entry)) (now (picture .entry)) (now (history .entry))))) r
+        (worldOf (now (image .entry)) (now (memory .entry)) (now (picture .entry)) (now (history .entry))))) (r .number)
         (now (image .exit)) (now (memory .exit)) (now (picture .exit)) (now (history .exit)) ⌝ }
+    ensures { λ r. ⌜ r .dark ≡ dark.stepDark
+        (worldOf (now (image .entry)) (now (memory .entry)) (now (picture .entry)) (now (history .entry))) ⌝ }
 {
     let before = image::read(image);
     let m = before.machine;
@@ -105,13 +114,20 @@ fn step_in(
     let answer = chip8::step(m, t, memory, picture, history, keys, random);
     let outcome = answer.outcome;
     let n = number(outcome);
+    let went_dark = answer.dark as u64;
     if n != 0 {
-        return n;
+        return Told {
+            number: n,
+            dark: went_dark,
+        };
     }
     let next_m = answer.machine;
     let next_t = answer.trail;
     image::write(image, next_m, next_t);
-    n
+    Told {
+        number: n,
+        dark: went_dark,
+    }
 }
 
 fn tick_in(image: &mut [u8], history: &mut [u8]) -> u32
@@ -158,7 +174,7 @@ fn back_in(image: &mut [u8], memory: &mut [u8], picture: &mut [u8], history: &[u
     n
 }
 
-// The number of accepted steps goes to the answer.
+// The number of accepted steps and of the spots that they darkened go to the answer.
 fn run_in(
     image: &mut [u8],
     memory: &mut [u8],
@@ -180,13 +196,14 @@ fn run_in(
         (
         (rules_run.run (now (ticks .entry)) (now (keys .entry)) (now (randoms .entry))
         (worldOf (now (image .entry)) (now (memory .entry)) (now (picture .entry)) (now (history .entry)))) .accepted)
-        (now (answer .entry)) ⌝ }
+        (dark.runDark (now (ticks .entry)) (now (keys .entry)) (now (randoms .entry))
+        (worldOf (now (image .entry)) (now (memory .entry)) (now (picture .entry)) (now (history .entry)))) (now (answer .entry)) ⌝ }
 {
     let before = image::read(image);
     let m = before.machine;
     let t = before.trail;
     let ran = chip8::run(m, t, memory, picture, history, ticks, keys, randoms);
-    put_answer(answer, ran.accepted as u64);
+    put_answer(answer, ran.accepted as u64, ran.dark as u64);
     let outcome = ran.outcome;
     let n = number(outcome);
     if (n == 9) | (n == 10) {
@@ -263,22 +280,24 @@ pub extern "C" fn card_step(
         (spec.cardStep keys random (answers (now (answer .entry))) (now (image .entry)) (now (memory .entry))
         (now (picture .entry)) (now (history .entry))) r (now (image .exit)) (now (memory .exit)) (now (picture .exit))
         (now (history .exit)) ⌝ }
-    ensures { λ r. ⌜ now (answer .exit) ≡ answered (pick (eqb r 0) 1 0) (now (answer .entry)) ⌝ }
+    ensures { λ r. ⌜ now (answer .exit) ≡ answered (pick (eqb r 0) 1 0)
+        (spec.stepWentDark (now (image .entry)) (now (memory .entry)) (now (picture .entry)) (now (history .entry)))
+        (now (answer .entry)) ⌝ }
 {
     if image.len() != image::IMAGE {
-        put_answer(answer, 0);
+        put_answer(answer, 0, 0);
         return 9;
     }
     if answer.len() != ANSWER {
         return 9;
     }
-    let n = step_in(image, memory, picture, history, keys, random);
-    if n == 0 {
-        put_answer(answer, 1);
+    let told = step_in(image, memory, picture, history, keys, random);
+    if told.number == 0 {
+        put_answer(answer, 1, told.dark);
     } else {
-        put_answer(answer, 0);
+        put_answer(answer, 0, told.dark);
     }
-    n
+    told.number
 }
 
 #[no_mangle]
@@ -326,10 +345,12 @@ pub extern "C" fn card_run(
         (now (memory .exit)) (now (picture .exit)) (now (history .exit)) ⌝ }
     ensures { λ r. ⌜ now (answer .exit) ≡ answered
         (spec.runAccepted (now (ticks .entry)) (now (keys .entry)) (now (randoms .entry)) (now (image .entry))
+        (now (memory .entry)) (now (picture .entry)) (now (history .entry)))
+        (spec.runWentDark (now (ticks .entry)) (now (keys .entry)) (now (randoms .entry)) (now (image .entry))
         (now (memory .entry)) (now (picture .entry)) (now (history .entry))) (now (answer .entry)) ⌝ }
 {
     if image.len() != image::IMAGE {
-        put_answer(answer, 0);
+        put_answer(answer, 0, 0);
         return 9;
     }
     if answer.len() != ANSWER {

@@ -18,7 +18,15 @@ fn step(
 ) -> Answer {
     let machine = card.machine;
     let trail = card.trail;
-    chip8::step(machine, trail, memory, picture, history, keys, random)
+    let stepped = chip8::step(machine, trail, memory, picture, history, keys, random);
+    let outcome = stepped.outcome;
+    let next_machine = stepped.machine;
+    let next_trail = stepped.trail;
+    Answer {
+        outcome,
+        machine: next_machine,
+        trail: next_trail,
+    }
 }
 
 fn tick(card: Answer, history: &mut [u8]) -> Answer {

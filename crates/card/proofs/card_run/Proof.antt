@@ -2,21 +2,21 @@
 use mathlib.Core.Path.{refl}
 use borrow.Author.Needs.{needs}
 use borrow.Author.Tests.{eq-eqb, ne-eqb}
-use Rattle.card.specs.Card.{cardRun, runAccepted}
+use Rattle.card.specs.Card.{cardRun, runAccepted, runWentDark}
 use Rattle.card.proofs.Laws.{as-it-came}
 use Rattle.card.proofs.card_run.Statement.{statement}
 use Rattle.card.proofs.card_run.Tie as tie
 
 returns : tie.Need-returns
-unfolding cardRun runAccepted
+unfolding cardRun runAccepted runWentDark
 returns c = rw (ne-eqb _ _ (c .before .before .before .before .if1 .taken)) (as-it-came _ _ _ _ _, c .before .before .put-answer .ensures)
 
 returns-2 : tie.Need-returns-2
-unfolding cardRun runAccepted
+unfolding cardRun runAccepted runWentDark
 returns-2 c = rw (eq-eqb _ _ (c .before .if1 .left), ne-eqb _ _ (c .if2 .taken)) (as-it-came _ _ _ _ _, refl)
 
 returns-3 : tie.Need-returns-3
-unfolding cardRun runAccepted
+unfolding cardRun runAccepted runWentDark
 returns-3 c =
     let image = eq-eqb _ _ (c .before .before .before .before .before .before .before .before .before .before .before .before .before .before .before .before .before .if1 .left) in
     (rw (image, eq-eqb _ _ (c .before .before .before .before .before .before .before .before .before .before .before .before .before .before .before .before .if2 .left)) (c .before .before .before .before .before .before .before .before .before .before .run-in .ensures .0), rw image (c .before .before .before .before .before .before .before .before .before .before .run-in .ensures .1))

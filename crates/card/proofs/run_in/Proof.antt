@@ -8,16 +8,16 @@ returns : tie.Need-returns
 returns c =
     let read = c .before .before .before .before .before .before .before .before .before .before .before .before .before .before .before .before .before .before .read .ensures in
     let ran = rw (read .0, read .1) at (c .before .before .before .before .before .before .before .before .before .before .before .before .run .ensures) in (
-      partly-left _ (c .before .before .before .before .before .before .before .before .before .before .before .before .before .before .before .before .before .before .before .before .before .before .before .before .before .before .before .before .args .image .now) _ _ _ _ _ _ _ (ran .rest) (c .before .number .ensures) (c .if1 .taken),
-      rw (ran .accepted) at (c .before .before .before .before .put-answer .ensures),
+      partly-left _ (c .before .before .before .before .before .before .before .before .before .before .before .before .before .before .before .before .before .before .before .before .before .before .before .before .before .before .before .before .args .image .now) _ _ _ _ _ _ _ (ran .0 .rest) (c .before .number .ensures) (c .if1 .taken),
+      rw (ran .0 .accepted, ran .1 .0) at (c .before .before .before .before .put-answer .ensures),
     )
 
 returns-2 : tie.Need-returns-2
 returns-2 c =
     let read = c .before .before .before .before .before .before .before .before .before .before .before .before .before .before .before .before .before .before .before .before .before .before .before .before .read .ensures in
     let ran = rw (read .0, read .1) at (c .before .before .before .before .before .before .before .before .before .before .before .before .before .before .before .before .before .before .run .ensures) in (
-      partly-anew _ (c .before .before .before .before .before .before .before .before .before .before .before .before .before .before .before .before .before .before .before .before .before .before .before .before .before .before .before .before .before .before .before .before .before .before .args .image .now) _ _ _ _ _ _ _ (ran .rest) (c .before .before .before .before .before .before .before .number .ensures) (c .before .before .before .before .before .before .if1 .left) _ (c .before .before .write .ensures),
-      rw (ran .accepted) at (c .before .before .before .before .before .before .before .before .before .before .put-answer .ensures),
+      partly-anew _ (c .before .before .before .before .before .before .before .before .before .before .before .before .before .before .before .before .before .before .before .before .before .before .before .before .before .before .before .before .before .before .before .before .before .before .args .image .now) _ _ _ _ _ _ _ (ran .0 .rest) (c .before .before .before .before .before .before .before .number .ensures) (c .before .before .before .before .before .before .if1 .left) _ (c .before .before .write .ensures),
+      rw (ran .0 .accepted, ran .1 .0) at (c .before .before .before .before .before .before .before .before .before .before .put-answer .ensures),
     )
 
 pub run-in-spec : {M : Type 1} → statement M
