@@ -16,6 +16,7 @@ fn run(program: &[u8], picture: &mut [u8]) -> Ran {
     if text::number(outcome) != 0 {
         return Ran {
             accepted: 0,
+            dark: 0,
             outcome,
             machine,
             trail,

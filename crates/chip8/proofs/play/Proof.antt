@@ -1,12 +1,12 @@
 -- Refused by the tests 9 or 10, which a sound start passes, or played from a world that is ready: then the theorem of the rules tells of it.
-use mathlib.Core.Path.{sym, ap, _∙_}
-use mathlib.Core.Bool.{and-eq-true-iff}
+use mathlib.Core.Path.{_≡_, sym, ap, _∙_}
+use mathlib.Core.Bool.{_&&_, and-eq-true-iff}
 use borrow.Author.Needs.{needs}
 use Rattle.rules.specs.Refusal.{number}
 use Rattle.rules.specs.World.{World, world}
 use Rattle.rules.specs.Run.{listsFit, allMoves}
 use Rattle.rules.proofs.Ready.{ready-typed}
-use Rattle.rules.proofs.Given.{passed-lists}
+use Rattle.rules.proofs.Given.{tests, passed-lists}
 use Rattle.chip8.proofs.Moves.{play-refused, play-admitted, start-not-refused, play-told}
 use Rattle.chip8.proofs.play.Statement.{statement}
 use Rattle.chip8.proofs.play.Tie as tie
@@ -41,8 +41,9 @@ returns-2 c =
     let w = given s in
     let done = c .before .before .before .before .before .before .before .before .before .before .enum-told .given .1 in
     let admitted = c .before .before .before .before .before .before .before .before .before .before .before .before .admitted .ensures in
-    let says = rw (c .before .before .before .before .before .before .before .before .before .before .before .before .before .before .before .before .all-moves .ensures, c .before .before .before .before .before .before .before .before .before .before .before .before .before .before .before .before .before .lists-fit .ensures) at (admitted .0) in (
-      rw (play-admitted (a .moves .now) (a .keys .now) (a .randoms .now) w (sym says ∙ ap number done)) (c .before .before .before .before .before .before .play .ensures),
+    let says = rw (c .before .before .before .before .before .before .before .before .before .before .before .before .before .before .before .before .all-moves .ensures, c .before .before .before .before .before .before .before .before .before .before .before .before .before .before .before .before .before .lists-fit .ensures) at (admitted .0) in
+    let passed : tests w (listsFit (a .moves .now) (a .keys .now) (a .randoms .now) && allMoves (a .moves .now)) ≡ 0 = sym says ∙ ap number done in (
+      rw (play-admitted (a .moves .now) (a .keys .now) (a .randoms .now) w passed) (c .before .before .before .before .before .before .play .ensures),
       λ start lists all. play-told _ _ _ w (ready-typed w (admitted .1 done)) start _ _ _ _ _ _ (c .before .before .before .before .before .before .play .ensures),
     )
 

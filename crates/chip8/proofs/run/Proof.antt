@@ -1,10 +1,11 @@
 -- Refused by the tests 9 or 10, or the run of a world that is ready.
-use mathlib.Core.Path.{sym, ap, _∙_}
+use mathlib.Core.Path.{_≡_, sym, ap, _∙_}
 use native.Mathlib.Omega.{arith}
 use borrow.Author.Needs.{needs}
 use Rattle.rules.specs.Refusal.{number}
 use Rattle.rules.specs.World.{World, world}
-use Rattle.rules.proofs.Given.{passed-lists}
+use Rattle.rules.specs.Run.{listsFit}
+use Rattle.rules.proofs.Given.{tests, passed-lists}
 use Rattle.chip8.proofs.Entries.{run-refused, run-refused-dark, run-admitted, run-admitted-dark}
 use Rattle.chip8.proofs.run.Statement.{statement}
 use Rattle.chip8.proofs.run.Tie as tie
@@ -36,7 +37,7 @@ returns-2 c =
     let s = c .before .before .before .before .before .before .before .before .before .before .before .before .before .before .before .before .before .before .before .before .before .before .before in
     let a = s .args in
     let says = rw (c .before .before .before .before .before .before .before .before .before .before .before .before .before .before .before .before .lists-fit .ensures) at (c .before .before .before .before .before .before .before .before .before .before .before .before .admitted .ensures .0) in
-    let passed = sym says ∙ ap number (c .before .before .before .before .before .before .before .before .before .before .enum-told .given .1) in
+    let passed : tests (given s) (listsFit (a .ticks .now) (a .keys .now) (a .randoms .now)) ≡ 0 = sym says ∙ ap number (c .before .before .before .before .before .before .before .before .before .before .enum-told .given .1) in
     let ran = c .before .before .before .before .before .before .run .ensures in (
       rw (run-admitted (a .ticks .now) (a .keys .now) (a .randoms .now) (given s) passed) (ran .0),
       (rw (run-admitted-dark (a .ticks .now) (a .keys .now) (a .randoms .now) (given s) passed) (ran .1 .0), ran .1 .1),
