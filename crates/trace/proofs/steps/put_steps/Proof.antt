@@ -35,7 +35,7 @@ returns c =
     let loop = step .before .before .before .before .before .before .before in
     let q = put .put-stop .ensures in
     let p = loop .loop .inv .0 in
-    let told = sym (step .step .ensures .says) ∙ sym (number .number .ensures) in
+    let told = sym (step .step .ensures .0 .says) ∙ sym (number .number .ensures) in
     (omega (arith, q .ends, q .room, loop .loop .inv .1), stopped p (omega (arith, step .before .before .before .before .before .before .loop-test .taken)) told (put .before .before .if1 .taken) q)
 
 put-step-requires : tie.Need-put-step-requires Inv-loop μ-loop
@@ -52,7 +52,7 @@ loop-again c =
     let word = step .before .before .before .before in
     let loop = word .before .before .before in
     let i = loop .loop .inv in
-    let g = step .step .ensures in
+    let g = step .step .ensures .0 in
     let done = sym (g .says) ∙ sym (number .number .ensures) ∙ if .if1 .left in
     let q = put .put-step .ensures in (
       more (i .0) (omega (arith, word .before .before .loop-test .taken)) done (handed g) (rw (word .word-at .ensures) at (q .0)) (q .1),
