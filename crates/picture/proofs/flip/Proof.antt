@@ -9,12 +9,15 @@ use Rattle.picture.proofs.flip.Statement.{statement}
 use Rattle.picture.proofs.flip.Tie as tie
 
 returns : tie.Need-returns
-returns c n =
+returns c =
     let known = c .before .before .before .before in
-    let args = known .before .args in
-    word-turned (args .picture .now) (args .k) (args .mask) n
-    (omega (arith, known .slice-known .given (args .k))) (omega (arith, known .slice-known .given (args .k + 1))) (omega arith)
-    (c .before .before .word-at .ensures) (c .before .high .ensures) (c .low .ensures)
+    let args = known .before .args in (
+      rw (c .before .before .word-at .ensures),
+      λ n.
+          word-turned (args .picture .now) (args .k) (args .mask) n
+          (omega (arith, known .slice-known .given (args .k))) (omega (arith, known .slice-known .given (args .k + 1))) (omega arith)
+          (c .before .before .word-at .ensures) (c .before .high .ensures) (c .low .ensures),
+    )
 
 pub flip-spec : {M : Type 1} → statement M
 flip-spec = tie.close (tie.spec (search needs) (search needs) (search needs) (search needs) (search needs) (λ c. simp length-set (omega arith)) (search needs) returns)
