@@ -2,7 +2,7 @@
 ghost use Prim.Native.Nat.{_≤_, _<_};
 ghost use Rattle.io.specs.Counts.{Counts};
 use crate::script::Line;
-use chip8::Answer;
+use parts::Answer;
 use rules::Machine;
 use rules::Outcome;
 use rules::Timers;

@@ -2,7 +2,7 @@
 use crate::card;
 use crate::card::Sizes;
 use crate::script::Line;
-use chip8::Answer;
+use parts::Answer;
 use rules::Machine;
 use rules::Outcome;
 use rules::Wait;

@@ -1,21 +1,16 @@
 -- The bytes that are lent to a record are those that the change names, and the record can be written.
 use mathlib.Core.Path.{_≡_, refl}
 use mathlib.Core.List.{List}
-use Prim.Native.Nat.{ℕ, _+_, _-_, _≤_}
+use Prim.Native.Nat.{ℕ, _≤_}
 use native.Mathlib.Omega.{arith}
-use lib.ListN.{length, take, drop}
+use lib.ListN.{length}
 use Rattle.rules.specs.declared.Machine.{Machine}
 use Rattle.rules.specs.declared.Change.{Change}
 use Rattle.rules.specs.declared.Change.the-variants.{Nothing, InMemory, InPicture}
-use Rattle.rules.specs.Memory.{part}
 use Rattle.rules.specs.Record.{old, count}
 use Rattle.rules.proofs.Parts.{part-length}
 use Rattle.rules.proofs.Undo.{Fits}
 use Rattle.history.specs.Writable.{Writable}
-
--- the part of a list from s to s + n has n elements
-pub lent-part : (s n : ℕ) (l : List ℕ) → take (s + n - s) (drop s l) ≡ part l s n
-lent-part s n l = let cut : s + n - s ≡ n = omega arith in rw cut
 
 module _ (mem pic : List ℕ) (memory : length mem ≡ 4096) (picture : length pic ≡ 256) where
   old-counted : (c : Change) → Fits c → (length (old c mem pic) ≡ count c) × (count c ≤ 256)

@@ -1,11 +1,13 @@
-// A machine in parts. The variables and the stack are arrays that are lent, so that no step copies them; the rest is small, and goes by
-// value.
+// The parts that are handed about. Of a machine: the variables and the stack are arrays that are lent, so that no step copies them; the
+// rest is small, and goes by value. And what a call answers beside the buffers that it is lent.
 ghost use mathlib.Core.Path.{_≡_};
 ghost use mathlib.Core.List.{List};
 ghost use Prim.Native.Nat.{ℕ};
 ghost use Rattle.parts.specs.Whole as spec;
 use rules::Machine;
+use rules::Outcome;
 use rules::Timers;
+use rules::Trail;
 use rules::Wait;
 
 // What a machine has besides its variables and its stack.
@@ -45,4 +47,30 @@ pub fn whole(c: Core, v: [u8; 16], stack: [u16; Machine::STACK]) -> Machine
         timers,
         wait,
     }
+}
+
+// ---- what a call answers
+
+// What a call hands back beside the buffers: what came of it, the state, and the history's two numbers.
+pub struct Answer {
+    pub outcome: Outcome,
+    pub machine: Machine,
+    pub trail: Trail,
+}
+
+// The same of a step, with the number of lit spots that its drawing darkened.
+pub struct Stepped {
+    pub dark: usize,
+    pub outcome: Outcome,
+    pub machine: Machine,
+    pub trail: Trail,
+}
+
+// The same of a run, with the number of accepted steps and the sum of what they darkened.
+pub struct Ran {
+    pub accepted: usize,
+    pub dark: usize,
+    pub outcome: Outcome,
+    pub machine: Machine,
+    pub trail: Trail,
 }

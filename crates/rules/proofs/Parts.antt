@@ -48,6 +48,10 @@ put-back a b s n before behind =
 pub part-length : (a : List ℕ) (s n : ℕ) → s + n ≤ length a → length (part a s n) ≡ n
 part-length a s n h = simp (length-take, length-drop) (omega arith)
 
+-- what is lent from s to s + n is the part of n elements there
+pub lent-part : (s n : ℕ) (l : List ℕ) → take (s + n - s) (drop s l) ≡ part l s n
+lent-part s n l = let cut : s + n - s ≡ n = omega arith in rw cut
+
 -- ---- lists that are equal up to an element, or from it on
 
 module _ (n : ℕ) (a b : List ℕ) (e : length a ≡ length b) where

@@ -1,7 +1,7 @@
 -- In each arm the part that is lent is the one that the change names.
 use native.Mathlib.Omega.{arith}
 use borrow.Author.Needs.{needs}
-use Rattle.moves.proofs.Keep.{lent-part}
+use Rattle.rules.proofs.Parts.{lent-part}
 use Rattle.moves.proofs.old_of.Statement.{statement}
 use Rattle.moves.proofs.old_of.Tie as tie
 

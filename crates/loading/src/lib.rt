@@ -1,0 +1,64 @@
+// A load: what it tests, what it leaves in memory, and the call.
+ghost use mathlib.Core.Path.{_≡_};
+ghost use Prim.Native.Nat.{_≤_};
+ghost use lib.ListN.{length};
+ghost use Rattle.rules.specs.Refusal.{number};
+ghost use Rattle.rules.specs.Load.{loadRefusal, loadedMemory};
+ghost use Rattle.rules.specs.Load as rule;
+ghost use Rattle.rules.specs.Promise.{Gives};
+use digits::lay_digits;
+use parts::Answer;
+use rules::Machine;
+use rules::Outcome;
+use rules::Refusal;
+use rules::Trail;
+
+// 9, then 8.
+fn judged(program: &[u8], memory: &[u8], picture: &[u8], history: &[u8]) -> Outcome
+    ensures { λ r. ⌜ number r ≡ loadRefusal (now (program .entry)) (now (memory .entry)) (now (picture .entry)) (now (history .entry)) ⌝ }
+{
+    if !judge::sizes_fit(memory, picture, history) {
+        return Outcome::Refused(Refusal::BufferLength);
+    }
+    let size = program.len();
+    if (1 <= size) & (size <= Machine::MEMORY - Machine::START) {
+        return Outcome::Done;
+    }
+    Outcome::Refused(Refusal::ProgramLength)
+}
+
+// The digits, the program at its address, and zeros everywhere else.
+fn lay_out(program: &[u8], memory: &mut [u8])
+    requires { ⌜ (length (now memory) ≡ 4096) × (length (now program) ≤ 3584) ⌝ }
+    ensures { λ _. ⌜ now (memory .exit) ≡ loadedMemory (now (program .entry)) ⌝ }
+{
+    lay_digits(memory);
+    memory::clear(memory, digits::SIZE);
+    memory::lay(memory, Machine::START, program);
+}
+
+// Loads a program: digits, program and zeros to memory, zeros to the picture and the history.
+pub fn load(program: &[u8], memory: &mut [u8], picture: &mut [u8], history: &mut [u8]) -> Answer
+    ensures { λ r. ⌜ Gives
+        (rule.load (now (program .entry)) (now (memory .entry)) (now (picture .entry)) (now (history .entry))) (r .outcome)
+        (r .machine) (r .trail) (now (memory .exit)) (now (picture .exit)) (now (history .exit)) ⌝ }
+{
+    let machine = Machine::fresh();
+    let trail = Trail { next: 0, kept: 0 };
+    let outcome = judged(program, memory, picture, history);
+    let Outcome::Done = outcome else {
+        return Answer {
+            outcome,
+            machine,
+            trail,
+        };
+    };
+    lay_out(program, memory);
+    memory::clear(picture, 0);
+    memory::clear(history, 0);
+    Answer {
+        outcome: Outcome::Done,
+        machine,
+        trail,
+    }
+}

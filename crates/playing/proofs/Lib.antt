@@ -1,0 +1,2 @@
+-- A play, move by move.
+pub mod Moves

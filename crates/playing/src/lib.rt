@@ -1,0 +1,144 @@
+// A play, move by move.
+ghost use mathlib.Core.Path.{_≡_};
+ghost use mathlib.Core.Bool.{true};
+ghost use Rattle.rules.specs.World.{world, places};
+ghost use Rattle.rules.specs.Run.{unrefused, listsFit, allMoves, moveOf, movesOf, made, playFrom};
+ghost use Rattle.rules.specs.Run as rule;
+ghost use Rattle.rules.specs.Past.{Start, Told, follow, first};
+ghost use Rattle.rules.specs.Promise.{Gives};
+use parts::Answer;
+use rules::Machine;
+use rules::Outcome;
+use rules::Trail;
+
+// Whether each byte is a move.
+fn all_moves(moves: &[u8]) -> bool
+    ensures { λ r. ⌜ r ≡ allMoves (now (moves .entry)) ⌝ }
+{
+    let mut i = 0;
+    while i < moves.len() {
+        if moves[i] > 2 {
+            return false;
+        }
+        i += 1;
+    }
+    true
+}
+
+// One move.
+fn make(
+    step: u8,
+    machine: Machine,
+    trail: Trail,
+    memory: &mut [u8],
+    picture: &mut [u8],
+    history: &mut [u8],
+    keys: u16,
+    random: u8,
+) -> Answer
+    ensures { λ r. ⌜ Gives
+        (made (moveOf step keys random) (world machine trail (now (memory .entry)) (now (picture .entry)) (now (history .entry))))
+        (r .outcome) (r .machine) (r .trail) (now (memory .exit)) (now (picture .exit)) (now (history .exit)) ⌝ }
+{
+    match step {
+        0 => {
+            let stepped = stepping::step(machine, trail, memory, picture, history, keys, random);
+            let outcome = stepped.outcome;
+            let next_machine = stepped.machine;
+            let next_trail = stepped.trail;
+            Answer {
+                outcome,
+                machine: next_machine,
+                trail: next_trail,
+            }
+        }
+        1 => stepping::tick(machine, trail, history),
+        _ => restoring::back(machine, trail, memory, picture, history),
+    }
+}
+
+// Every move, each on what the last one gave.
+fn make_all(
+    machine: Machine,
+    trail: Trail,
+    memory: &mut [u8],
+    picture: &mut [u8],
+    history: &mut [u8],
+    moves: &[u8],
+    keys: &[u16],
+    randoms: &[u8],
+) -> Answer
+    requires { ⌜ listsFit (now moves) (now keys) (now randoms) ≡ true ⌝ }
+    ensures { λ r. ⌜ Gives
+        (playFrom (movesOf (now (moves .entry)) (now (keys .entry)) (now (randoms .entry)))
+        (unrefused (world machine trail (now (memory .entry)) (now (picture .entry)) (now (history .entry))))) (r .outcome)
+        (r .machine) (r .trail) (now (memory .exit)) (now (picture .exit)) (now (history .exit)) ⌝ }
+{
+    let mut last = Answer {
+        outcome: Outcome::Done,
+        machine,
+        trail,
+    };
+    let mut i = 0;
+    while i < moves.len() {
+        let m = last.machine;
+        let t = last.trail;
+        last = make(
+            moves[i],
+            m,
+            t,
+            memory,
+            picture,
+            history,
+            keys[i],
+            randoms[i],
+        );
+        i += 1;
+    }
+    last
+}
+
+// Makes a list of moves (0 a step, 1 a tick, 2 a step back), each on what the last one gave, refused ones included, and answers
+// what came of the last.
+pub fn play(
+    machine: Machine,
+    trail: Trail,
+    memory: &mut [u8],
+    picture: &mut [u8],
+    history: &mut [u8],
+    moves: &[u8],
+    keys: &[u16],
+    randoms: &[u8],
+) -> Answer
+    ensures { λ r. ⌜ Gives
+        (rule.play (now (moves .entry)) (now (keys .entry)) (now (randoms .entry))
+        (world machine trail (now (memory .entry)) (now (picture .entry)) (now (history .entry)))) (r .outcome) (r .machine)
+        (r .trail) (now (memory .exit)) (now (picture .exit)) (now (history .exit)) ⌝ }
+    ensures { λ r. ⌜
+        (Start (world machine trail (now (memory .entry)) (now (picture .entry)) (now (history .entry))) → listsFit
+        (now (moves .entry)) (now (keys .entry)) (now (randoms .entry)) ≡ true → allMoves (now (moves .entry)) ≡ true → Told
+        (world (r .machine) (r .trail) (now (memory .exit)) (now (picture .exit)) (now (history .exit)))
+        (follow (places (now (history .entry))) (movesOf (now (moves .entry)) (now (keys .entry)) (now (randoms .entry)))
+        (world machine trail (now (memory .entry)) (now (picture .entry)) (now (history .entry)))
+        (first (world machine trail (now (memory .entry)) (now (picture .entry)) (now (history .entry)))))) ⌝ }
+{
+    let lists = running::lists_fit(moves.len(), keys.len(), randoms.len()) & all_moves(moves);
+    let outcome = judge::admitted(machine, trail, memory, picture, history, lists);
+    let Outcome::Done = outcome else {
+        return Answer {
+            outcome,
+            machine,
+            trail,
+        };
+    };
+    make_all(
+        machine,
+        trail,
+        memory,
+        picture,
+        history,
+        moves,
+        keys,
+        randoms,
+    )
+}

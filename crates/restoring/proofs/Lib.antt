@@ -1,0 +1,2 @@
+-- What a step back gives.
+pub mod Undone

@@ -1,0 +1,110 @@
+// A step back: the last record is read, and what it holds is put back. Nothing is written before the record is known to be whole.
+ghost use mathlib.Core.Path.{_≡_};
+ghost use Prim.Native.Nat.{_<_};
+ghost use lib.ListN.{length};
+ghost use Rattle.rules.specs.World.{world, places};
+ghost use Rattle.rules.specs.Record.{placeSize, memoryAt, pictureAt};
+ghost use Rattle.rules.specs.Call as rule;
+ghost use Rattle.rules.specs.Promise.{Gives};
+ghost use Rattle.rules.proofs.Undo.{Fits};
+ghost use Rattle.rules.proofs.Ready.{Ready};
+use parts::Answer;
+use rules::Change;
+use rules::Machine;
+use rules::Outcome;
+use rules::Refusal;
+use rules::Trail;
+
+// Next falls by one, 0 becoming R - 1.
+fn place_before(next: usize, places: usize) -> usize
+    requires { ⌜ next < places ⌝ }
+    ensures { λ r. ⌜ (r ≡ rule.placeBefore places next) × (r < places) ⌝ }
+{
+    if next == 0 { places - 1 } else { next - 1 }
+}
+
+// Puts the old bytes of a record back where they stood.
+fn put_back(change: Change, place: &[u8], memory: &mut [u8], picture: &mut [u8])
+    requires { ⌜ (length (now place) ≡ placeSize) × (length (now memory) ≡ 4096) × (length (now picture) ≡ 256) × Fits change ⌝ }
+    ensures { λ _. ⌜ now (memory .exit) ≡ memoryAt change (now (place .entry)) (now (memory .entry)) ⌝ }
+    ensures { λ _. ⌜ now (picture .exit) ≡ pictureAt change (now (place .entry)) (now (picture .entry)) ⌝ }
+{
+    match change {
+        Change::Nothing => {}
+        Change::InMemory(start, count) => {
+            let end = history::AT_OLD + count as usize;
+            memory::lay(memory, start as usize, &place[history::AT_OLD..end]);
+        }
+        Change::InPicture(start, count) => {
+            let end = history::AT_OLD + count as usize;
+            memory::lay(picture, start as usize, &place[history::AT_OLD..end]);
+        }
+    }
+}
+
+// A step back in a world that passed the tests 9 and 10.
+fn undo(
+    machine: Machine,
+    trail: Trail,
+    memory: &mut [u8],
+    picture: &mut [u8],
+    history: &[u8],
+) -> Answer
+    requires { ⌜ Ready (world machine trail (now memory) (now picture) (now history)) ⌝ }
+    ensures { λ r. ⌜ Gives
+        (rule.back (world machine trail (now (memory .entry)) (now (picture .entry)) (now (history .entry)))) (r .outcome)
+        (r .machine) (r .trail) (now (memory .exit)) (now (picture .exit)) (now (history .entry)) ⌝ }
+{
+    if trail.kept == 0 {
+        return Answer {
+            outcome: Outcome::Refused(Refusal::NothingKept),
+            machine,
+            trail,
+        };
+    }
+    let last = place_before(trail.next, judge::places(history));
+    let at = history::PLACE * last;
+    let end = at + history::PLACE;
+    let old = history::read(&history[at..end], machine);
+    if old.damaged {
+        return Answer {
+            outcome: Outcome::Refused(Refusal::Damaged),
+            machine,
+            trail,
+        };
+    }
+    let change = old.change;
+    put_back(change, &history[at..end], memory, picture);
+    let before = old.machine;
+    Answer {
+        outcome: Outcome::Done,
+        machine: before,
+        trail: Trail {
+            next: last,
+            kept: trail.kept - 1,
+        },
+    }
+}
+
+// Goes one action back.
+pub fn back(
+    machine: Machine,
+    trail: Trail,
+    memory: &mut [u8],
+    picture: &mut [u8],
+    history: &[u8],
+) -> Answer
+    ensures { λ r. ⌜ Gives
+        (rule.back (world machine trail (now (memory .entry)) (now (picture .entry)) (now (history .entry)))) (r .outcome)
+        (r .machine) (r .trail) (now (memory .exit)) (now (picture .exit)) (now (history .entry)) ⌝ }
+{
+    let outcome = judge::admitted(machine, trail, memory, picture, history, true);
+    let Outcome::Done = outcome else {
+        return Answer {
+            outcome,
+            machine,
+            trail,
+        };
+    };
+    undo(machine, trail, memory, picture, history)
+}

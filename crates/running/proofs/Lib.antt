@@ -1,0 +1,3 @@
+-- Ticks and entries, one after the other.
+pub mod Ticks
+pub mod Entries

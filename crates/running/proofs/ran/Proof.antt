@@ -1,0 +1,7 @@
+-- The machine is the whole of its parts.
+use borrow.Author.Needs.{needs}
+use Rattle.running.proofs.ran.Statement.{statement}
+use Rattle.running.proofs.ran.Tie as tie
+
+pub ran-spec : {M : Type 1} → statement M
+ran-spec = tie.close (tie.spec (search needs) (λ c. rw (c .whole .ensures)))

@@ -1,0 +1,75 @@
+-- The invariant: after i entries, what is still to be done from here gives the same answer.
+use mathlib.Core.Path.{_≡_, refl, _∙_}
+use Prim.Native.Nat.{_-_}
+use native.Mathlib.Omega.{arith}
+use borrow.Author.Needs.{needs}
+use lib.ListN.{length}
+use Rattle.rules.specs.World.{world}
+use Rattle.parts.specs.Whole.{whole}
+use Rattle.running.proofs.Entries.{Running, lists-same, started, ended, ended-dark, went-on, stopped, stopped-dark}
+use Rattle.running.proofs.run_ready.Statement.{statement}
+use Rattle.running.proofs.run_ready.Tie as tie
+
+abbrev Inv-loop : tie.InvT-loop
+Inv-loop memory₀ picture₀ history₀ ticks keys randoms v₀ stack₀ c₀ t₀ dark₀ i₀ memory picture history v stack c t dark i =
+    (length memory ≡ length memory₀)
+    × (length picture ≡ length picture₀)
+    × (length history ≡ length history₀)
+    × Running ticks keys randoms (world (whole c₀ v₀ stack₀) t₀ memory₀ picture₀ history₀) (world (whole c v stack) t memory picture history) i dark
+
+abbrev μ-loop : tie.MeasureT-loop
+μ-loop memory₀ picture₀ history₀ ticks keys randoms v₀ stack₀ c₀ t₀ dark₀ i₀ memory picture history v stack c t dark i = length ticks - i
+
+loop-holds : tie.Need-loop-holds Inv-loop μ-loop
+loop-holds c =
+    let s = c .before .before .before .before .before .before .before .before .before in
+    (refl, refl, refl, started _ _ _ _ (lists-same _ _ _ (s .pre .1)) (rw (c .core-of .ensures) (s .pre .0)))
+
+shared-slice-read-entry-2 : tie.Need-shared-slice-read-entry-2 Inv-loop μ-loop
+shared-slice-read-entry-2 c = omega (arith, c .before .before .before .before .before .before .before .before .loop .inv .3 .lists .keys)
+
+shared-slice-read-entry-3 : tie.Need-shared-slice-read-entry-3 Inv-loop μ-loop
+shared-slice-read-entry-3 c = omega (arith, c .before .before .before .before .before .before .before .before .before .loop .inv .3 .lists .randoms)
+
+-- a part that an entry was lent has the length that it had before the loop
+memory-length : (c : tie.After-entry Inv-loop μ-loop) → length (c .entry .last .1 .1 .1 .1 .0) ≡ length (c .before .before .before .before .before .before .before .before .before .before .before .before .before .before .before .before .before .before .before .before .args .memory .now)
+memory-length c = let same : length (c .entry .last .1 .1 .1 .1 .0) ≡ length (c .before .before .before .before .before .before .before .before .before .before .loop .memory) = search needs in same ∙ c .before .before .before .before .before .before .before .before .before .before .loop .inv .0
+
+picture-length : (c : tie.After-entry Inv-loop μ-loop) → length (c .entry .last .1 .1 .1 .1 .1 .0) ≡ length (c .before .before .before .before .before .before .before .before .before .before .before .before .before .before .before .before .before .before .before .before .args .picture .now)
+picture-length c = let same : length (c .entry .last .1 .1 .1 .1 .1 .0) ≡ length (c .before .before .before .before .before .before .before .before .before .before .loop .picture) = search needs in same ∙ c .before .before .before .before .before .before .before .before .before .before .loop .inv .1
+
+history-length : (c : tie.After-entry Inv-loop μ-loop) → length (c .entry .last .1 .1 .1 .1 .1 .1 .0) ≡ length (c .before .before .before .before .before .before .before .before .before .before .before .before .before .before .before .before .before .before .before .before .args .history .now)
+history-length c = let same : length (c .entry .last .1 .1 .1 .1 .1 .1 .0) ≡ length (c .before .before .before .before .before .before .before .before .before .before .loop .history) = search needs in same ∙ c .before .before .before .before .before .before .before .before .before .before .loop .inv .2
+
+returns : tie.Need-returns Inv-loop μ-loop
+returns c =
+    let refused = c .before .enum-told2 .given .1 in
+    let inv = c .before .before .before .before .before .before .before .before .before .before .before .before .before .before .before .before .before .before .before .before .before .loop .inv .3 in
+    let more = c .before .before .before .before .before .before .before .before .before .before .before .before .before .before .before .before .before .before .before .before .loop-test .taken in
+    let entry = rw refused at (c .before .before .before .before .before .before .before .before .before .before .before .entry .ensures .0) in
+    rw (c .ran .ensures, refused, ← c .before .before .before .before .before .before .before .before .before .before .before .before .before .before .before .before .before .before .before .before .before .before .core-of .ensures)
+    (stopped _ _ _ _ _ _ _ inv more _ _ _ _ _ _ entry, (stopped-dark _ _ _ _ _ _ _ inv more _ _ _ _ _ _ entry, inv .few))
+
+loop-again : tie.Need-loop-again Inv-loop μ-loop
+loop-again c =
+    let entry = c .before .before .before .before .before .before .before .before .before .before .before .entry .ensures in (
+      memory-length (c .before .before .before .before .before .before .before .before .before .before .before),
+      picture-length (c .before .before .before .before .before .before .before .before .before .before .before),
+      history-length (c .before .before .before .before .before .before .before .before .before .before .before),
+      went-on _ _ _ _ _ _ _ (c .before .before .before .before .before .before .before .before .before .before .before .before .before .before .before .before .before .before .before .before .before .loop .inv .3) (c .before .before .before .before .before .before .before .before .before .before .before .before .before .before .before .before .before .before .before .before .loop-test .taken) _ _ _ _ _ _ (rw (c .before .enum-told .given .1) at (entry .0)) (entry .1 .0) (entry .1 .1),
+    )
+
+returns-2 : tie.Need-returns-2 Inv-loop μ-loop
+returns-2 c =
+    let inv = c .before .before .loop .inv .3 in
+    let past = c .before .loop-test .left in
+    rw (c .ran2 .ensures, ← c .before .before .before .core-of .ensures) (ended _ _ _ _ _ _ _ inv past, (ended-dark _ _ _ _ _ _ _ inv past, inv .few))
+
+pub run-ready-spec : {M : Type 1} → statement M
+run-ready-spec =
+    tie.close (tie.spec Inv-loop μ-loop
+    (search needs) loop-holds (λ c. omega arith) (λ c. omega arith) shared-slice-read-entry-2 shared-slice-read-entry-3 (λ c κs. c .before .before .before .before .before .before .before .before .before .loop .inv .3 .ready)
+    (search needs) (search needs) (search needs) (λ c. memory-length (c .before .before .before .before .before .before .before .before .before .before .before)) (λ c. picture-length (c .before .before .before .before .before .before .before .before .before .before .before)) (λ c. history-length (c .before .before .before .before .before .before .before .before .before .before .before)) returns
+    (λ c. let inv = c .before .before .before .before .before .before .before .before .before .before .before .before .before .before .before .before .before .before .before .before .before .loop .inv .3 in omega (arith, inv .few, inv .inside, inv .lists .few, c .before .before .before .before .before .before .before .before .before .before .before .entry .ensures .1 .1))
+    (λ c. omega (arith, c .before .before .before .before .before .before .before .before .before .before .before .before .before .before .before .before .before .before .before .before .before .loop .inv .3 .lists .few)) (λ c. omega arith) loop-again
+    (search needs) (λ c. c .before .before .loop .inv .0) (λ c. c .before .before .loop .inv .1) (λ c. c .before .before .loop .inv .2) returns-2)

@@ -1,0 +1,210 @@
+// A run, entry by entry. The variables and the stack are two locals of the run, lent to each step, so a step copies neither.
+ghost use mathlib.Core.Path.{_≡_};
+ghost use mathlib.Core.Bool.{true, _&&_};
+ghost use mathlib.Core.List.{List};
+ghost use Prim.Native.Nat.{ℕ, _*_, _≤_};
+ghost use lib.Dec.{eqb, leb};
+ghost use Rattle.rules.specs.World.{world};
+ghost use Rattle.rules.specs.Call as rule;
+ghost use Rattle.rules.specs.Run.{tickedBy, runFrom, unrefused, listsFit};
+ghost use Rattle.rules.specs.Run as runs;
+ghost use Rattle.rules.specs.Dark.{stepDark, runDarkFrom, runDark};
+ghost use Rattle.rules.specs.Promise.{Gives, GivesRun};
+ghost use Rattle.rules.proofs.Ready.{Ready};
+ghost use Rattle.parts.specs.Whole.{whole};
+ghost use Rattle.moves.specs.Inner.{Tickable};
+use moves::Moved;
+use parts::Core;
+use parts::Ran;
+use rules::Machine;
+use rules::Outcome;
+use rules::Trail;
+
+// Three lengths that are equal, at most 4,096.
+pub fn lists_fit(a: usize, b: usize, c: usize) -> bool
+    ensures { λ r. ⌜ r ≡ (eqb a b && eqb b c && leb a 4096) ⌝ }
+{
+    (a == b) & (b == c) & (a <= 4096)
+}
+
+// So many ticks.
+fn ticks_of(
+    c: Core,
+    v: &[u8; 16],
+    stack: &[u16; Machine::STACK],
+    trail: Trail,
+    history: &mut [u8],
+    count: u8,
+) -> Moved
+    requires { ⌜ Tickable (whole c (now v) (now stack)) trail (now history) ⌝ }
+    ensures { λ r. ⌜
+        ((memory picture : List ℕ) → Gives
+        (unrefused
+        (tickedBy count (world (whole c (now (v .entry)) (now (stack .entry))) trail memory picture (now (history .entry)))))
+        (r .outcome) (whole (r .core) (now (v .entry)) (now (stack .entry))) (r .trail) memory picture (now (history .exit))) ⌝ }
+{
+    let mut c = c;
+    let mut t = trail;
+    let mut left = count;
+    while 0 < left {
+        let moved = moves::tick(c, v, stack, t, history);
+        let next_core = moved.core;
+        let next_trail = moved.trail;
+        c = next_core;
+        t = next_trail;
+        left -= 1;
+    }
+    Moved {
+        outcome: Outcome::Done,
+        core: c,
+        trail: t,
+    }
+}
+
+// One entry: its ticks, then its step.
+fn entry(
+    c: Core,
+    v: &mut [u8; 16],
+    stack: &mut [u16; Machine::STACK],
+    trail: Trail,
+    memory: &mut [u8],
+    picture: &mut [u8],
+    history: &mut [u8],
+    ticks: u8,
+    keys: u16,
+    random: u8,
+) -> moves::Stepped
+    requires { ⌜ Ready (world (whole c (now v) (now stack)) trail (now memory) (now picture) (now history)) ⌝ }
+    ensures { λ r. ⌜ Gives
+        (rule.step keys random
+        (tickedBy ticks
+        (world (whole c (now (v .entry)) (now (stack .entry))) trail (now (memory .entry)) (now (picture .entry))
+        (now (history .entry))))) (r .outcome) (whole (r .core) (now (v .exit)) (now (stack .exit))) (r .trail)
+        (now (memory .exit)) (now (picture .exit)) (now (history .exit)) ⌝ }
+    ensures { λ r. ⌜ (r .dark ≡ stepDark
+        (tickedBy ticks
+        (world (whole c (now (v .entry)) (now (stack .entry))) trail (now (memory .entry)) (now (picture .entry))
+        (now (history .entry))))) × (r .dark ≤ 120) ⌝ }
+{
+    let ticked = ticks_of(c, v, stack, trail, history, ticks);
+    let core = ticked.core;
+    let t = ticked.trail;
+    moves::step(core, v, stack, t, memory, picture, history, keys, random)
+}
+
+// What a run answers where it ends.
+fn ran(
+    accepted: usize,
+    dark: usize,
+    outcome: Outcome,
+    c: Core,
+    v: [u8; 16],
+    stack: [u16; Machine::STACK],
+    trail: Trail,
+) -> Ran
+    ensures { λ r. ⌜ r ≡ record { accepted = accepted; dark = dark; outcome = outcome; machine = whole c v stack; trail = trail } ⌝ }
+{
+    Ran {
+        accepted,
+        dark,
+        outcome,
+        machine: parts::whole(c, v, stack),
+        trail,
+    }
+}
+
+// A run of a world that passed the tests 9 and 10.
+fn run_ready(
+    machine: Machine,
+    trail: Trail,
+    memory: &mut [u8],
+    picture: &mut [u8],
+    history: &mut [u8],
+    ticks: &[u8],
+    keys: &[u16],
+    randoms: &[u8],
+) -> Ran
+    requires { ⌜ Ready (world machine trail (now memory) (now picture) (now history)) ⌝ }
+    requires { ⌜ listsFit (now ticks) (now keys) (now randoms) ≡ true ⌝ }
+    ensures { λ r. ⌜ GivesRun
+        (runFrom 0 (now (ticks .entry)) (now (keys .entry)) (now (randoms .entry))
+        (world machine trail (now (memory .entry)) (now (picture .entry)) (now (history .entry)))) (r .accepted) (r .outcome)
+        (r .machine) (r .trail) (now (memory .exit)) (now (picture .exit)) (now (history .exit)) ⌝ }
+    ensures { λ r. ⌜ (r .dark ≡ runDarkFrom (now (ticks .entry)) (now (keys .entry)) (now (randoms .entry))
+        (world machine trail (now (memory .entry)) (now (picture .entry)) (now (history .entry))))
+        × (r .dark ≤ 120 * r .accepted) ⌝ }
+{
+    let mut v = machine.v;
+    let mut stack = machine.stack;
+    let mut c = parts::core_of(machine);
+    let mut t = trail;
+    let mut dark = 0;
+    let mut i = 0;
+    while i < ticks.len() {
+        let moved = entry(
+            c,
+            &mut v,
+            &mut stack,
+            t,
+            memory,
+            picture,
+            history,
+            ticks[i],
+            keys[i],
+            randoms[i],
+        );
+        let next_core = moved.core;
+        let next_trail = moved.trail;
+        c = next_core;
+        t = next_trail;
+        let outcome = moved.outcome;
+        let Outcome::Done = outcome else {
+            return ran(i, dark, outcome, c, v, stack, t);
+        };
+        dark += moved.dark;
+        i += 1;
+    }
+    ran(i, dark, Outcome::Done, c, v, stack, t)
+}
+
+// For each entry makes the ticks, then a step, up to the first step that is refused.
+pub fn run(
+    machine: Machine,
+    trail: Trail,
+    memory: &mut [u8],
+    picture: &mut [u8],
+    history: &mut [u8],
+    ticks: &[u8],
+    keys: &[u16],
+    randoms: &[u8],
+) -> Ran
+    ensures { λ r. ⌜ GivesRun
+        (runs.run (now (ticks .entry)) (now (keys .entry)) (now (randoms .entry))
+        (world machine trail (now (memory .entry)) (now (picture .entry)) (now (history .entry)))) (r .accepted) (r .outcome)
+        (r .machine) (r .trail) (now (memory .exit)) (now (picture .exit)) (now (history .exit)) ⌝ }
+    ensures { λ r. ⌜ (r .dark ≡ runDark (now (ticks .entry)) (now (keys .entry)) (now (randoms .entry))
+        (world machine trail (now (memory .entry)) (now (picture .entry)) (now (history .entry))))
+        × (r .dark ≤ 120 * r .accepted) ⌝ }
+{
+    let lists = lists_fit(ticks.len(), keys.len(), randoms.len());
+    let outcome = judge::admitted(machine, trail, memory, picture, history, lists);
+    let Outcome::Done = outcome else {
+        return Ran {
+            accepted: 0,
+            dark: 0,
+            outcome,
+            machine,
+            trail,
+        };
+    };
+    run_ready(
+        machine,
+        trail,
+        memory,
+        picture,
+        history,
+        ticks,
+        keys,
+        randoms,
+    )
+}

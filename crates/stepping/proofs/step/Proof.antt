@@ -1,0 +1,21 @@
+-- The run of one entry is its step.
+use mathlib.Core.Path.{_∙_}
+use native.Mathlib.Omega.{arith}
+use borrow.Author.Needs.{needs}
+use Rattle.rules.specs.World.{world}
+use Rattle.stepping.proofs.Alone.{alone, alone-dark, alone-few}
+use Rattle.stepping.proofs.step.Statement.{statement}
+use Rattle.stepping.proofs.step.Tie as tie
+
+returns : tie.Need-returns
+returns c =
+    let a = c .before .before .before .before .before .before .before .before .before .before .before .before .before .before .before .before .before .before .args in
+    let w = world (a .machine) (a .trail) (a .memory .now) (a .picture .now) (a .history .now) in
+    let ran = c .before .before .before .before .before .before .before .before .run .ensures in
+    let one = alone-few (a .keys) (a .random) w in (
+      rw (alone (a .keys) (a .random) w) at (ran .0 .rest),
+      (ran .1 .0 ∙ alone-dark (a .keys) (a .random) w, omega (arith, ran .1 .1, ran .0 .accepted, one)),
+    )
+
+pub step-spec : {M : Type 1} → statement M
+step-spec = tie.close (tie.spec (search needs) (search needs) (search needs) (search needs) (search needs) (search needs) (search needs) returns)

@@ -1,0 +1,82 @@
+// One action forward: a step, and a tick.
+ghost use mathlib.Core.Path.{_≡_};
+ghost use mathlib.Core.List.{List};
+ghost use Prim.Native.Nat.{ℕ, _≤_};
+ghost use Rattle.rules.specs.World.{world};
+ghost use Rattle.rules.specs.Call as rule;
+ghost use Rattle.rules.specs.Dark.{stepDark};
+ghost use Rattle.rules.specs.Promise.{Gives};
+use parts::Answer;
+use parts::Stepped;
+use rules::Machine;
+use rules::Outcome;
+use rules::Trail;
+
+// Executes one instruction. A step is a run of one entry without a tick: so its code stands in one place, and the compiler puts it into
+// the loop of a run.
+pub fn step(
+    machine: Machine,
+    trail: Trail,
+    memory: &mut [u8],
+    picture: &mut [u8],
+    history: &mut [u8],
+    keys: u16,
+    random: u8,
+) -> Stepped
+    ensures { λ r. ⌜ Gives
+        (rule.step keys random (world machine trail (now (memory .entry)) (now (picture .entry)) (now (history .entry))))
+        (r .outcome) (r .machine) (r .trail) (now (memory .exit)) (now (picture .exit)) (now (history .exit)) ⌝ }
+    ensures { λ r. ⌜ (r .dark ≡ stepDark
+        (world machine trail (now (memory .entry)) (now (picture .entry)) (now (history .entry)))) × (r .dark ≤ 120) ⌝ }
+{
+    let ticks = [0];
+    let key_list = [keys];
+    let randoms = [random];
+    let ran = running::run(
+        machine,
+        trail,
+        memory,
+        picture,
+        history,
+        &ticks,
+        &key_list,
+        &randoms,
+    );
+    let outcome = ran.outcome;
+    let next_machine = ran.machine;
+    let next_trail = ran.trail;
+    Stepped {
+        dark: ran.dark,
+        outcome,
+        machine: next_machine,
+        trail: next_trail,
+    }
+}
+
+// Takes one clock tick. It is lent only the history: the promise holds beside any memory and picture.
+pub fn tick(machine: Machine, trail: Trail, history: &mut [u8]) -> Answer
+    ensures { λ r. ⌜
+        ((memory picture : List ℕ) → Gives (rule.tick (world machine trail memory picture (now (history .entry))))
+        (r .outcome) (r .machine) (r .trail) memory picture (now (history .exit))) ⌝ }
+{
+    let fits = judge::history_fits(history);
+    let outcome = judge::tested(fits, judge::soundly(machine, trail, history));
+    let Outcome::Done = outcome else {
+        return Answer {
+            outcome,
+            machine,
+            trail,
+        };
+    };
+    let v = machine.v;
+    let stack = machine.stack;
+    let moved = moves::tick(parts::core_of(machine), &v, &stack, trail, history);
+    let ticked = moved.outcome;
+    let core = moved.core;
+    let next_trail = moved.trail;
+    Answer {
+        outcome: ticked,
+        machine: parts::whole(core, v, stack),
+        trail: next_trail,
+    }
+}
