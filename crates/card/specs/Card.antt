@@ -1,32 +1,20 @@
 -- What each call of the boundary leaves: its refusal number, 0 for done, the image, and every lent byte.
 use mathlib.Core.Path.{_≡_}
-use mathlib.Core.Bool.{Bool, true, not, _&&_, _||_}
+use mathlib.Core.Bool.{Bool, true, _&&_}
 use mathlib.Core.List.{List, [], _∷_}
 use Prim.Native.Nat.{ℕ}
 use lib.ListN.{length}
 use lib.Dec.{eqb}
-use Rattle.rules.specs.declared.Refusal.the-variants.{BufferLength, Unsound}
+use Rattle.rules.specs.declared.Refusal.the-variants.{BufferLength}
 use Rattle.rules.specs.Number.{pick}
 use Rattle.rules.specs.Refusal.{numberOf}
-use Rattle.rules.specs.State.{fresh}
-use Rattle.rules.specs.World.{World, Answer, world}
-use Rattle.rules.specs.Load.{freshTrail, load}
+use Rattle.rules.specs.Load.{load}
 use Rattle.rules.specs.Call.{step, tick, back}
 use Rattle.rules.specs.Run.{run, play}
 use Rattle.rules.specs.Dark.{stepDark, runDark}
 use Rattle.panel.specs.Panel.{fits, panelRefusal, panelAfter, PanelOf}
-use Rattle.image.specs.Image.{imageSize, imageOf, machineOf, trailOf}
-
-pub record Card : Type 0 where
-  pub refusal : ℕ
-  pub image : List ℕ
-  pub memory : List ℕ
-  pub picture : List ℕ
-  pub history : List ℕ
-
--- the world that an image and the buffers beside it stand for
-abbrev pub worldOf : List ℕ → List ℕ → List ℕ → List ℕ → World
-worldOf image memory picture history = world (machineOf image) (trailOf image) memory picture history
+use Rattle.image.specs.Image.{imageSize}
+use Rattle.imaged.specs.Imaged.{Card, worldOf, shown, whole, partly}
 
 abbrev pub sized : List ℕ → Bool
 sized image = eqb (length image) imageSize
@@ -35,25 +23,6 @@ sized image = eqb (length image) imageSize
 abbrev pub untouched : ℕ → List ℕ → List ℕ → List ℕ → List ℕ → Card
 untouched n image memory picture history =
     record { refusal = n; image = image; memory = memory; picture = picture; history = history }
-
--- what a call answered; the image is written anew where `anew` says so, and else left
-abbrev pub shown : Bool → List ℕ → Answer → Card
-shown anew image a =
-    record {
-      refusal = a .refusal;
-      image = pick anew (imageOf (a .world .machine) (a .world .trail)) image;
-      memory = a .world .memory;
-      picture = a .world .picture;
-      history = a .world .history;
-    }
-
--- an accepted call writes the image
-abbrev pub whole : List ℕ → Answer → Card
-whole image a = shown (eqb (a .refusal) 0) image a
-
--- a run and a play keep what they did before a refused step: only where they are refused themselves is the image left
-abbrev pub partly : List ℕ → Answer → Card
-partly image a = shown (not (eqb (a .refusal) (numberOf BufferLength) || eqb (a .refusal) (numberOf Unsound))) image a
 
 -- ---- the calls; an image, or an answer, of a wrong length is 9
 
@@ -107,16 +76,9 @@ unfoldable pub runWentDark : List ℕ → List ℕ → List ℕ → List ℕ →
 runWentDark ticks keys randoms image memory picture history =
     pick (sized image) (runDark ticks keys randoms (worldOf image memory picture history)) 0
 
--- ---- the promise: what a call leaves is what the definition says, part by part
+-- ---- the promise of the panel
 
-pub record Leaves (c : Card) (n : ℕ) (img mem pic his : List ℕ) : Type 0 where
-  pub says : n ≡ c .refusal
-  pub image : img ≡ c .image
-  pub memory : mem ≡ c .memory
-  pub picture : pic ≡ c .picture
-  pub history : his ≡ c .history
-
--- the same of the panel, which is lent no image: its number, every byte, and of a panel that is filled every dot
+-- what the panel leaves, which is lent no image: its number, every byte, and of a panel that is filled every dot
 pub record LeavesPanel (n : ℕ) (picture before after : List ℕ) : Type 0 where
   pub says : n ≡ panelRefusal picture before
   pub bytes : after ≡ panelAfter picture before

@@ -12,7 +12,7 @@ returns c = rw (ne-eqb _ _ (c .if1 .taken)) (as-it-came _ _ _ _ _)
 
 returns-2 : tie.Need-returns-2
 unfolding cardPlay
-returns-2 c = rw (eq-eqb _ _ (c .before .before .before .before .before .before .before .before .before .before .before .before .before .if1 .left)) (c .before .before .before .before .before .before .before .before .play-in .ensures)
+returns-2 c = rw (eq-eqb _ _ (c .before .before .before .before .before .before .before .before .before .before .before .before .before .if1 .left)) (c .before .before .before .before .before .before .before .before .play .ensures)
 
 pub card-play-spec : {M : Type 1} → statement M
 card-play-spec = tie.close (tie.spec returns (search needs) (search needs) (search needs) (search needs) (search needs) returns-2)

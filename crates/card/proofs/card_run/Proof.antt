@@ -1,4 +1,4 @@
--- An image or an answer of the wrong length is refused; else the inner call.
+-- An image or an answer of the wrong length is refused; else the inner call, and its two numbers.
 use mathlib.Core.Path.{refl}
 use borrow.Author.Needs.{needs}
 use borrow.Author.Tests.{eq-eqb, ne-eqb}
@@ -18,8 +18,12 @@ returns-2 c = rw (eq-eqb _ _ (c .before .if1 .left), ne-eqb _ _ (c .if2 .taken))
 returns-3 : tie.Need-returns-3
 unfolding cardRun runAccepted runWentDark
 returns-3 c =
-    let image = eq-eqb _ _ (c .before .before .before .before .before .before .before .before .before .before .before .before .before .before .before .before .before .if1 .left) in
-    (rw (image, eq-eqb _ _ (c .before .before .before .before .before .before .before .before .before .before .before .before .before .before .before .before .if2 .left)) (c .before .before .before .before .before .before .before .before .before .before .run-in .ensures .0), rw image (c .before .before .before .before .before .before .before .before .before .before .run-in .ensures .1))
+    let image = eq-eqb _ _ (c .before .before .before .before .before .before .before .before .before .before .before .before .before .before .before .before .before .before .if1 .left) in
+    let told = c .before .before .before .before .before .before .before .before .before .before .before .before .run .ensures in (
+      rw (image, eq-eqb _ _ (c .before .before .before .before .before .before .before .before .before .before .before .before .before .before .before .before .before .if2 .left)) (told .0),
+      rw (image, ← told .1 .0, ← told .1 .1) (c .before .before .put-answer2 .ensures),
+    )
 
 pub card-run-spec : {M : Type 1} → statement M
-card-run-spec = tie.close (tie.spec (search needs) (search needs) returns returns-2 (search needs) (search needs) (search needs) (search needs) (search needs) (search needs) returns-3)
+card-run-spec =
+    tie.close (tie.spec (search needs) (search needs) returns returns-2 (search needs) (search needs) (search needs) (search needs) (search needs) (search needs) (search needs) returns-3)

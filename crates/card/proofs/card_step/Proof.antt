@@ -18,21 +18,12 @@ returns-2 c = rw (eq-eqb _ _ (c .before .if1 .left), ne-eqb _ _ (c .if2 .taken))
 returns-3 : tie.Need-returns-3
 unfolding cardStep stepWentDark
 returns-3 c =
-    let image = eq-eqb _ _ (c .before .before .before .before .before .before .before .before .before .before .before .before .before .before .before .before .before .before .before .before .if1 .left) in
-    let told = c .before .before .before .before .before .before .before .before .before .before .before .before .before .before .step-in .ensures in (
-      rw (image, eq-eqb _ _ (c .before .before .before .before .before .before .before .before .before .before .before .before .before .before .before .before .before .before .before .if2 .left)) (told .0),
-      rw (image, eq-eqb _ _ (c .before .before .before .before .if3 .taken), ← told .1) (c .before .before .put-answer2 .ensures),
-    )
-
-returns-4 : tie.Need-returns-4
-unfolding cardStep stepWentDark
-returns-4 c =
-    let image = eq-eqb _ _ (c .before .before .before .before .before .before .before .before .before .before .before .before .before .before .before .before .before .before .before .before .if1 .left) in
-    let told = c .before .before .before .before .before .before .before .before .before .before .before .before .before .before .step-in .ensures in (
-      rw (image, eq-eqb _ _ (c .before .before .before .before .before .before .before .before .before .before .before .before .before .before .before .before .before .before .before .if2 .left)) (told .0),
-      rw (image, ne-eqb _ _ (c .before .before .before .before .if3 .left), ← told .1) (c .before .before .put-answer3 .ensures),
+    let image = eq-eqb _ _ (c .before .before .before .before .before .before .before .before .before .before .before .before .before .before .before .before .before .before .if1 .left) in
+    let told = c .before .before .before .before .before .before .before .before .before .before .before .before .step .ensures in (
+      rw (image, eq-eqb _ _ (c .before .before .before .before .before .before .before .before .before .before .before .before .before .before .before .before .before .if2 .left)) (told .0),
+      rw (image, ← told .1 .0, ← told .1 .1) (c .before .before .put-answer2 .ensures),
     )
 
 pub card-step-spec : {M : Type 1} → statement M
 card-step-spec =
-    tie.close (tie.spec (search needs) (search needs) returns returns-2 (search needs) (search needs) (search needs) (search needs) (search needs) (search needs) (search needs) (search needs) returns-3 (search needs) (search needs) (search needs) (search needs) (search needs) returns-4)
+    tie.close (tie.spec (search needs) (search needs) returns returns-2 (search needs) (search needs) (search needs) (search needs) (search needs) (search needs) (search needs) returns-3)

@@ -12,7 +12,7 @@ returns c memory picture = rw (ne-eqb _ _ (c .if1 .taken)) (as-it-came _ _ _ _ _
 
 returns-2 : tie.Need-returns-2
 unfolding cardTick
-returns-2 c memory picture = rw (eq-eqb _ _ (c .before .before .before .before .before .before .before .if1 .left)) (c .before .before .before .before .tick-in .ensures memory picture)
+returns-2 c memory picture = rw (eq-eqb _ _ (c .before .before .before .before .before .before .before .if1 .left)) (c .before .before .before .before .tick .ensures memory picture)
 
 pub card-tick-spec : {M : Type 1} → statement M
 card-tick-spec = tie.close (tie.spec returns (search needs) (search needs) (search needs) returns-2)

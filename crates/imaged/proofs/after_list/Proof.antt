@@ -1,0 +1,15 @@
+-- Written where the number is neither 9 nor 10, and else left.
+use borrow.Author.Needs.{needs}
+use Rattle.imaged.proofs.after_list.Statement.{statement}
+use Rattle.imaged.proofs.after_list.Tie as tie
+
+returns : tie.Need-returns
+returns c =
+    let says = c .before .before .before .before .before .before .before .number .ensures in
+    (says, rw (← says, c .before .before .before .before .before .before .if1 .taken) (c .before .before .write .ensures))
+
+returns-2 : tie.Need-returns-2
+returns-2 c = let says = c .before .number .ensures in (says, rw (← says, c .if1 .left))
+
+pub after-list-spec : {M : Type 1} → statement M
+after-list-spec = tie.close (tie.spec (search needs) (search needs) (search needs) returns returns-2)

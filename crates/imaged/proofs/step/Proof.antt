@@ -1,0 +1,18 @@
+-- The library's step of the world that the image stands for; the image is written where it is accepted.
+use lib.Dec.{eqb}
+use borrow.Author.Needs.{needs}
+use Rattle.imaged.proofs.Laws.{seen}
+use Rattle.imaged.proofs.step.Statement.{statement}
+use Rattle.imaged.proofs.step.Tie as tie
+
+returns : tie.Need-returns
+returns c =
+    let read = c .before .before .before .before .before .before .before .before .before .before .before .before .before .before .before .before .before .before .before .read .ensures in
+    let stepped = rw (read .0, read .1) at (c .before .before .before .before .before .before .before .before .before .before .before .before .before .step .ensures) in
+    let after = c .before .before .before .after-call .ensures in (
+      seen (λ n. eqb n 0) _ (c .before .before .before .before .before .before .before .before .before .before .before .before .before .before .before .before .before .before .before .before .before .before .before .before .before .args .image .now) _ _ _ _ _ _ _ _ (stepped .0) (after .0) (after .1),
+      (c .accepted-by .ensures, stepped .1 .0),
+    )
+
+pub step-spec : {M : Type 1} → statement M
+step-spec = tie.close (tie.spec (search needs) (search needs) (search needs) (search needs) (search needs) (search needs) (search needs) (search needs) returns)

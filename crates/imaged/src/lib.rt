@@ -1,0 +1,253 @@
+// The library's calls on a machine that stands in an image of the right length: it is read, the call is made, and what the call gave is
+// written back.
+ghost use mathlib.Core.Path.{_≡_};
+ghost use mathlib.Core.Bool.{true, not, _||_};
+ghost use mathlib.Core.List.{List};
+ghost use Prim.Native.Nat.{ℕ};
+ghost use lib.Dec.{eqb};
+ghost use lib.ListN.{length};
+ghost use Rattle.rules.specs.Number.{pick};
+ghost use Rattle.rules.specs.Refusal as refusal;
+ghost use Rattle.rules.specs.Load as rules_load;
+ghost use Rattle.rules.specs.Call as rules_call;
+ghost use Rattle.rules.specs.Run as rules_run;
+ghost use Rattle.rules.specs.Dark.{stepDark, runDark};
+ghost use Rattle.image.specs.Image.{imageSize, imageOf};
+ghost use Rattle.imaged.specs.Imaged.{worldOf, shown, whole, partly, Leaves};
+use parts::Answer;
+use rules::Outcome;
+use rules::Refusal;
+
+// What a step and a run tell besides the bytes: the refusal number or 0, the accepted steps, and the lit spots that they darkened.
+pub struct Told {
+    pub number: u32,
+    pub accepted: u64,
+    pub dark: u64,
+}
+
+// ---- numbers
+
+fn refusal_number(r: Refusal) -> u32
+    ensures { λ n. ⌜ n ≡ refusal.numberOf r ⌝ }
+{
+    match r {
+        Refusal::PcPastEnd => 1,
+        Refusal::Unlisted => 2,
+        Refusal::MachineCode => 3,
+        Refusal::StackFull => 4,
+        Refusal::StackEmpty => 5,
+        Refusal::MemoryPastEnd => 6,
+        Refusal::NothingKept => 7,
+        Refusal::ProgramLength => 8,
+        Refusal::BufferLength => 9,
+        Refusal::Unsound => 10,
+        Refusal::Damaged => 11,
+    }
+}
+
+// A call's number: 0 where it was done, and else that of its refusal.
+pub fn number(o: Outcome) -> u32
+    ensures { λ n. ⌜ n ≡ refusal.number o ⌝ }
+{
+    match o {
+        Outcome::Done => 0,
+        Outcome::Refused(r) => refusal_number(r),
+    }
+}
+
+// How many steps a step's number tells of.
+fn accepted_by(n: u32) -> u64
+    ensures { λ r. ⌜ r ≡ pick (eqb n 0) 1 0 ⌝ }
+{
+    if n == 0 { 1 } else { 0 }
+}
+
+// ---- the image after a call
+
+// An accepted call writes the image, and a refused one leaves it.
+fn after_call(image: &mut [u8], answer: Answer) -> u32
+    requires { ⌜ length (now image) ≡ imageSize ⌝ }
+    ensures { λ r. ⌜ (r ≡ refusal.number (answer .outcome)) × (now (image .exit) ≡ pick (eqb (refusal.number (answer .outcome)) 0)
+        (imageOf (answer .machine) (answer .trail)) (now (image .entry))) ⌝ }
+{
+    let outcome = answer.outcome;
+    let n = number(outcome);
+    if n == 0 {
+        let machine = answer.machine;
+        let trail = answer.trail;
+        image::write(image, machine, trail);
+    }
+    n
+}
+
+// A run and a play keep what they did before a refused step: only where they are refused themselves is the image left.
+fn after_list(image: &mut [u8], answer: Answer) -> u32
+    requires { ⌜ length (now image) ≡ imageSize ⌝ }
+    ensures { λ r. ⌜ (r ≡ refusal.number (answer .outcome)) × (now (image .exit) ≡ pick
+        (not (eqb (refusal.number (answer .outcome)) 9 || eqb (refusal.number (answer .outcome)) 10))
+        (imageOf (answer .machine) (answer .trail)) (now (image .entry))) ⌝ }
+{
+    let outcome = answer.outcome;
+    let n = number(outcome);
+    if !((n == 9) | (n == 10)) {
+        let machine = answer.machine;
+        let trail = answer.trail;
+        image::write(image, machine, trail);
+    }
+    n
+}
+
+// ---- the calls
+
+// A load leaves the fresh image, refused or not.
+pub fn load(
+    program: &[u8],
+    image: &mut [u8],
+    memory: &mut [u8],
+    picture: &mut [u8],
+    history: &mut [u8],
+) -> u32
+    requires { ⌜ length (now image) ≡ imageSize ⌝ }
+    ensures { λ r. ⌜ Leaves
+        (shown true (now (image .entry))
+        (rules_load.load (now (program .entry)) (now (memory .entry)) (now (picture .entry)) (now (history .entry)))) r
+        (now (image .exit)) (now (memory .exit)) (now (picture .exit)) (now (history .exit)) ⌝ }
+{
+    let answer = chip8::load(program, memory, picture, history);
+    let m = answer.machine;
+    let t = answer.trail;
+    image::write(image, m, t);
+    let outcome = answer.outcome;
+    number(outcome)
+}
+
+pub fn step(
+    image: &mut [u8],
+    memory: &mut [u8],
+    picture: &mut [u8],
+    history: &mut [u8],
+    keys: u16,
+    random: u8,
+) -> Told
+    requires { ⌜ length (now image) ≡ imageSize ⌝ }
+    ensures { λ r. ⌜ Leaves
+        (whole (now (image .entry))
+        (rules_call.step keys random
+        (worldOf (now (image .entry)) (now (memory .entry)) (now (picture .entry)) (now (history .entry))))) (r .number)
+        (now (image .exit)) (now (memory .exit)) (now (picture .exit)) (now (history .exit)) ⌝ }
+    ensures { λ r. ⌜ (r .accepted ≡ pick (eqb (r .number) 0) 1 0) × (r .dark ≡ stepDark
+        (worldOf (now (image .entry)) (now (memory .entry)) (now (picture .entry)) (now (history .entry)))) ⌝ }
+{
+    let before = image::read(image);
+    let m = before.machine;
+    let t = before.trail;
+    let stepped = chip8::step(m, t, memory, picture, history, keys, random);
+    let outcome = stepped.outcome;
+    let machine = stepped.machine;
+    let trail = stepped.trail;
+    let n = after_call(
+        image,
+        Answer {
+            outcome,
+            machine,
+            trail,
+        },
+    );
+    Told {
+        number: n,
+        accepted: accepted_by(n),
+        dark: stepped.dark as u64,
+    }
+}
+
+pub fn tick(image: &mut [u8], history: &mut [u8]) -> u32
+    requires { ⌜ length (now image) ≡ imageSize ⌝ }
+    ensures { λ r. ⌜
+        ((memory picture : List ℕ) → Leaves
+        (whole (now (image .entry)) (rules_call.tick (worldOf (now (image .entry)) memory picture (now (history .entry))))) r
+        (now (image .exit)) memory picture (now (history .exit))) ⌝ }
+{
+    let before = image::read(image);
+    let m = before.machine;
+    let t = before.trail;
+    after_call(image, chip8::tick(m, t, history))
+}
+
+pub fn back(image: &mut [u8], memory: &mut [u8], picture: &mut [u8], history: &[u8]) -> u32
+    requires { ⌜ length (now image) ≡ imageSize ⌝ }
+    ensures { λ r. ⌜ Leaves
+        (whole (now (image .entry))
+        (rules_call.back (worldOf (now (image .entry)) (now (memory .entry)) (now (picture .entry)) (now (history .entry))))) r
+        (now (image .exit)) (now (memory .exit)) (now (picture .exit)) (now (history .entry)) ⌝ }
+{
+    let before = image::read(image);
+    let m = before.machine;
+    let t = before.trail;
+    after_call(image, chip8::back(m, t, memory, picture, history))
+}
+
+pub fn run(
+    image: &mut [u8],
+    memory: &mut [u8],
+    picture: &mut [u8],
+    history: &mut [u8],
+    ticks: &[u8],
+    keys: &[u16],
+    randoms: &[u8],
+) -> Told
+    requires { ⌜ length (now image) ≡ imageSize ⌝ }
+    ensures { λ r. ⌜ Leaves
+        (partly (now (image .entry))
+        (
+        (rules_run.run (now (ticks .entry)) (now (keys .entry)) (now (randoms .entry))
+        (worldOf (now (image .entry)) (now (memory .entry)) (now (picture .entry)) (now (history .entry)))) .answer)) (r .number)
+        (now (image .exit)) (now (memory .exit)) (now (picture .exit)) (now (history .exit)) ⌝ }
+    ensures { λ r. ⌜ (r .accepted ≡ (rules_run.run (now (ticks .entry)) (now (keys .entry)) (now (randoms .entry))
+        (worldOf (now (image .entry)) (now (memory .entry)) (now (picture .entry)) (now (history .entry)))) .accepted)
+        × (r .dark ≡ runDark (now (ticks .entry)) (now (keys .entry)) (now (randoms .entry))
+        (worldOf (now (image .entry)) (now (memory .entry)) (now (picture .entry)) (now (history .entry)))) ⌝ }
+{
+    let before = image::read(image);
+    let m = before.machine;
+    let t = before.trail;
+    let ran = chip8::run(m, t, memory, picture, history, ticks, keys, randoms);
+    let outcome = ran.outcome;
+    let machine = ran.machine;
+    let trail = ran.trail;
+    let n = after_list(
+        image,
+        Answer {
+            outcome,
+            machine,
+            trail,
+        },
+    );
+    Told {
+        number: n,
+        accepted: ran.accepted as u64,
+        dark: ran.dark as u64,
+    }
+}
+
+pub fn play(
+    image: &mut [u8],
+    memory: &mut [u8],
+    picture: &mut [u8],
+    history: &mut [u8],
+    moves: &[u8],
+    keys: &[u16],
+    randoms: &[u8],
+) -> u32
+    requires { ⌜ length (now image) ≡ imageSize ⌝ }
+    ensures { λ r. ⌜ Leaves
+        (partly (now (image .entry))
+        (rules_run.play (now (moves .entry)) (now (keys .entry)) (now (randoms .entry))
+        (worldOf (now (image .entry)) (now (memory .entry)) (now (picture .entry)) (now (history .entry))))) r
+        (now (image .exit)) (now (memory .exit)) (now (picture .exit)) (now (history .exit)) ⌝ }
+{
+    let before = image::read(image);
+    let m = before.machine;
+    let t = before.trail;
+    let answer = chip8::play(m, t, memory, picture, history, moves, keys, randoms);
+    after_list(image, answer)
+}
