@@ -1,16 +1,20 @@
 -- A run of one entry without a tick is its step: where it is accepted nothing is left to be done, and where it is refused the run ends.
 use mathlib.Core.Path.{_≡_, refl, sym}
 use mathlib.Core.Bool.{Bool, true, false, _&&_}
-use mathlib.Core.List.{[], _∷_}
+use mathlib.Core.List.{List, [], _∷_}
 use Prim.Native.Nat.{ℕ, _+_, _≤_}
 use native.Mathlib.Omega.{arith}
 use lib.Dec.{eqb}
 use borrow.Author.Tests.{ne-eqb}
+use Rattle.rules.specs.declared.Machine.{Machine}
+use Rattle.rules.specs.declared.Trail.{Trail}
+use Rattle.rules.specs.declared.Outcome.{Outcome}
 use Rattle.rules.specs.Number.{pick, unless}
 use Rattle.rules.specs.World.{World, Answer, buffersFit, soundly}
 use Rattle.rules.specs.Call.{step, stepRefusal}
 use Rattle.rules.specs.Run.{Ran, runFrom, run, runRefusal}
 use Rattle.rules.specs.Dark.{stepDark, runDarkFrom, runDark}
+use Rattle.rules.specs.Promise.{Gives}
 use Rattle.rules.proofs.Choices.{by-test}
 use Rattle.rules.proofs.Given.{tests}
 
@@ -43,11 +47,15 @@ module _ (keys random : ℕ) (w : World) where
   unfolding runFrom
   entry-few = by-test (λ (r : Ran). r .accepted ≤ 1) ((step keys random w) .refusal) 0 (λ z. omega arith) (λ ne. omega arith)
 
-  pub alone : (run (0 ∷ []) (keys ∷ []) (random ∷ []) w) .answer ≡ step keys random w
+  alone : (run (0 ∷ []) (keys ∷ []) (random ∷ []) w) .answer ≡ step keys random w
   unfolding run runRefusal step
   alone =
       by-test (λ (r : Ran). r .answer ≡ step keys random w) (tests w true) 0 (λ z. entry-answer)
       (λ ne. rw (same-refusal ne, ne-eqb (tests w true) 0 ne))
+
+  pub alone-gives : (o : Outcome) (m : Machine) (t : Trail) (mem pic his : List ℕ)
+      → Gives ((run (0 ∷ []) (keys ∷ []) (random ∷ []) w) .answer) o m t mem pic his → Gives (step keys random w) o m t mem pic his
+  alone-gives o m t mem pic his g = rw alone at g
 
   pub alone-dark : runDark (0 ∷ []) (keys ∷ []) (random ∷ []) w ≡ stepDark w
   unfolding runDark runRefusal stepDark

@@ -73,10 +73,10 @@ pub fn tick(machine: Machine, trail: Trail, history: &mut [u8]) -> Answer
     let moved = moves::tick(parts::core_of(machine), &v, &stack, trail, history);
     let ticked = moved.outcome;
     let core = moved.core;
-    let next_trail = moved.trail;
+    let grown = moved.trail;
     Answer {
         outcome: ticked,
         machine: parts::whole(core, v, stack),
-        trail: next_trail,
+        trail: grown,
     }
 }

@@ -3,7 +3,7 @@ use mathlib.Core.Path.{_∙_}
 use native.Mathlib.Omega.{arith}
 use borrow.Author.Needs.{needs}
 use Rattle.rules.specs.World.{world}
-use Rattle.stepping.proofs.Alone.{alone, alone-dark, alone-few}
+use Rattle.stepping.proofs.Alone.{alone-gives, alone-dark, alone-few}
 use Rattle.stepping.proofs.step.Statement.{statement}
 use Rattle.stepping.proofs.step.Tie as tie
 
@@ -13,7 +13,7 @@ returns c =
     let w = world (a .machine) (a .trail) (a .memory .now) (a .picture .now) (a .history .now) in
     let ran = c .before .before .before .before .before .before .before .before .run .ensures in
     let one = alone-few (a .keys) (a .random) w in (
-      rw (alone (a .keys) (a .random) w) at (ran .0 .rest),
+      alone-gives (a .keys) (a .random) w _ _ _ _ _ _ (ran .0 .rest),
       (ran .1 .0 ∙ alone-dark (a .keys) (a .random) w, omega (arith, ran .1 .1, ran .0 .accepted, one)),
     )
 
