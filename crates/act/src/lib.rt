@@ -11,6 +11,8 @@ use parts::Core;
 use rules::Machine;
 use rules::Op;
 use transfers::Acted;
+use transfers::draw;
+use transfers::pattern;
 
 // The instruction, after it was judged and its record kept.
 pub fn act(
@@ -39,14 +41,7 @@ pub fn act(
             picture::clear(picture);
             registers::idle(registers::onward(c))
         }
-        Op::Draw(x, y, n) => return transfers::draw(
-            c,
-            v,
-            x,
-            y,
-            transfers::pattern(c.i, n, memory),
-            picture,
-        ),
+        Op::Draw(x, y, n) => return draw(c, v, x, y, pattern(c.i, n, memory), picture),
         Op::Decimal(x) => transfers::decimal(c, v, x, memory),
         Op::Store(x) => transfers::store(c, v, x, memory),
         Op::Fetch(x) => transfers::fetch(c, v, x, memory),
