@@ -3,7 +3,7 @@
 ghost use mathlib.Core.Path.{_≡_};
 ghost use mathlib.Core.List.{List};
 ghost use Prim.Native.Nat.{ℕ, _≤_, _%_, _+_, _-_};
-ghost use lib.Dec.{eqb, ltb, leb};
+ghost use lib.Dec.{ltb, leb};
 ghost use Rattle.rules.specs.Number.{pick};
 ghost use Rattle.rules.specs.State.{withPc, withTimers};
 ghost use Rattle.rules.specs.Registers as state;
@@ -16,7 +16,7 @@ use registers::get;
 use rules::Simple;
 use rules::Timers;
 
-// What an instruction writes: PC alone, or a result, a result and a flag, I, or the timers, with a PC that goes on.
+// What an instruction writes: PC alone; or a result to VX, a result and a flag, I, or the timers, and then PC goes on.
 enum Effect {
     Next(u16),
     Result(u8, u8),
@@ -53,6 +53,7 @@ fn minus(x: u8, a: u8, b: u8) -> Effect
     Effect::Flagged(x, std::num::wrapping_sub_u8(a, b), flag(b <= a))
 }
 
+// What the instruction writes.
 fn effect_of(s: Simple, c: Core, v: &[u8; 16], keys: u16, random: u8) -> Effect
     requires { ⌜ c .pc ≤ 4094 ⌝ }
     ensures { λ r. ⌜
@@ -108,6 +109,7 @@ fn set_timers(c: Core, delay: u8, tone: u8) -> Core
     c
 }
 
+// The effect, on a core that is handed back and on the variables that are lent.
 fn write(e: Effect, c: Core, v: &mut [u8; 16]) -> Core
     requires { ⌜ c .pc ≤ 4094 ⌝ }
     ensures { λ r. ⌜
@@ -122,6 +124,7 @@ fn write(e: Effect, c: Core, v: &mut [u8; 16]) -> Core
     }
 }
 
+// The instruction. Only a read of the state comes before its effect is written, so no instruction reads what it wrote itself.
 pub fn simple(s: Simple, c: Core, v: &mut [u8; 16], keys: u16, random: u8) -> Core
     requires { ⌜ c .pc ≤ 4094 ⌝ }
     ensures { λ r. ⌜

@@ -1,11 +1,12 @@
-// The instructions that act on the state alone. The variables and the stack are lent; the rest of the state is taken by value and
-// handed back. Each contract speaks of the whole machine, beside any stack or any variables that the function is not lent.
+// A part of the state read or changed, and the instructions that call, return, or wait for a key. The variables and the stack are lent;
+// the rest of the state is taken by value and handed back. Each contract speaks of the whole machine, beside any stack or any variables
+// that the function is not lent.
 ghost use mathlib.Core.Path.{_≡_};
 ghost use mathlib.Core.List.{List};
-ghost use Prim.Native.Nat.{ℕ, _≤_, _<_, _%_, _+_, _-_};
+ghost use Prim.Native.Nat.{ℕ, _≤_, _<_, _%_};
 ghost use lib.ListN.{getD};
 ghost use Rattle.rules.specs.Number.{pick};
-ghost use Rattle.rules.specs.State.{upTo, withReg, withPc, withI, withTimers, withWait};
+ghost use Rattle.rules.specs.State.{upTo, withReg, withI, withWait};
 ghost use Rattle.rules.specs.Registers as state;
 ghost use Rattle.rules.specs.declared.Wait.the-variants.{Idle};
 ghost use Rattle.parts.specs.Whole.{whole};

@@ -1,5 +1,5 @@
 -- Each arm is the definition's clause for the instruction that was matched: its callee's promise, and what it leaves alone.
-use mathlib.Core.Path.{_≡_, refl, ap, _∙_}
+use mathlib.Core.Path.{refl, ap, _∙_}
 use Prim.Native.Nat.{_≤_}
 use native.Mathlib.Omega.{arith}
 use lib.ListN.{length, length-take}
