@@ -1,13 +1,12 @@
 -- What the judgement leaves: an instruction that is not refused, beside buffers of the right sizes.
 use mathlib.Core.Path.{_≡_}
 use mathlib.Core.List.{List}
-use Prim.Native.Nat.{ℕ, _+_, _-_, _≤_}
+use Prim.Native.Nat.{ℕ, _-_, _≤_}
 use lib.ListN.{length}
 use Rattle.rules.specs.declared.Machine.{Machine}
 use Rattle.rules.specs.declared.Op.{Op}
 use Rattle.rules.specs.State.{memorySize, pictureSize, stackSize}
 use Rattle.rules.specs.Step.{refusalOf}
-use Rattle.parts.specs.declared.Core.{Core}
 
 pub record Accepted (op : Op) (m : Machine) (mem pic : List ℕ) : Type 0 where
   pub near : m .pc ≤ memorySize - 2
@@ -15,9 +14,3 @@ pub record Accepted (op : Op) (m : Machine) (mem pic : List ℕ) : Type 0 where
   pub allowed : refusalOf op m ≡ 0
   pub memory : length mem ≡ memorySize
   pub picture : length pic ≡ pictureSize
-
--- the n bytes from I on are in memory
-pub record Within (n : ℕ) (c : Core) (mem : List ℕ) : Type 0 where
-  pub near : c .pc ≤ memorySize - 2
-  pub within : c .i + n ≤ memorySize
-  pub memory : length mem ≡ memorySize

@@ -130,7 +130,7 @@ pub fn step(
         };
     };
     let places = judge::places(history);
-    let change = act::change_of(op, c, v);
+    let change = transfers::change_of(op, c, v);
     let next = trail.next;
     history::keep(
         history,

@@ -1,18 +1,17 @@
-// The instructions that act on the state alone. The variables and the stack are lent; the rest of the state is taken by value and
-// handed back. Each contract speaks of the whole machine, beside any stack or any variables that the function is not lent.
+// A part of the state read or changed, and the instructions that call, return, or wait for a key. The variables and the stack are lent;
+// the rest of the state is taken by value and handed back. Each contract speaks of the whole machine, beside any stack or any variables
+// that the function is not lent.
 ghost use mathlib.Core.Path.{_≡_};
 ghost use mathlib.Core.List.{List};
-ghost use Prim.Native.Nat.{ℕ, _≤_, _<_, _%_, _+_, _-_};
+ghost use Prim.Native.Nat.{ℕ, _≤_, _<_, _%_};
 ghost use lib.ListN.{getD};
 ghost use Rattle.rules.specs.Number.{pick};
-ghost use Rattle.rules.specs.State.{upTo, withReg, withPc, withI, withTimers, withWait};
+ghost use Rattle.rules.specs.State.{upTo, withReg, withI, withWait};
 ghost use Rattle.rules.specs.Registers as state;
 ghost use Rattle.rules.specs.declared.Wait.the-variants.{Idle};
 ghost use Rattle.parts.specs.Whole.{whole};
 use parts::Core;
 use rules::Machine;
-use rules::Simple;
-use rules::Timers;
 use rules::Wait;
 
 // ---- numbers
@@ -24,15 +23,8 @@ pub fn flag(test: bool) -> u8
     if test { 1 } else { 0 }
 }
 
-// a - b, where a byte that passes 00 goes on at FF.
-fn difference(a: u8, b: u8) -> u8
-    ensures { λ r. ⌜ r ≡ (a + 256 - b) % 256 ⌝ }
-{
-    std::num::wrapping_sub_u8(a, b)
-}
-
 // Whether key k is down; there is none above F.
-fn down(keys: u16, k: u8) -> bool
+pub fn down(keys: u16, k: u8) -> bool
     ensures { λ r. ⌜ r ≡ state.down keys k ⌝ }
 {
     if k < 16 { (keys >> k) % 2 == 1 } else { false }
@@ -54,14 +46,6 @@ pub fn up_to(x: u8) -> usize
     (x % 16) as usize + 1
 }
 
-fn jump(c: Core, a: u16) -> Core
-    ensures { λ r. ⌜ ((v stack : List ℕ) → whole r v stack ≡ withPc a (whole c v stack)) ⌝ }
-{
-    let mut c = c;
-    c.pc = a;
-    c
-}
-
 // PC goes past this instruction.
 pub fn onward(c: Core) -> Core
     requires { ⌜ c .pc ≤ 4094 ⌝ }
@@ -69,20 +53,6 @@ pub fn onward(c: Core) -> Core
 {
     let mut c = c;
     c.pc += 2;
-    c
-}
-
-// PC grows by one number where the test holds, and else by the other.
-fn skip(c: Core, test: bool, yes: u16, no: u16) -> Core
-    requires { ⌜ (c .pc ≤ 4094) × (yes ≤ 4) × (no ≤ 4) ⌝ }
-    ensures { λ r. ⌜ ((v stack : List ℕ) → whole r v stack ≡ withPc (c .pc + pick test yes no) (whole c v stack)) ⌝ }
-{
-    let mut c = c;
-    if test {
-        c.pc += yes;
-    } else {
-        c.pc += no;
-    }
     c
 }
 
@@ -98,7 +68,7 @@ pub fn put(c: Core, v: &mut [u8; 16], x: u8, b: u8) -> Core
 }
 
 // The flag is written after the result, so it wins where X is F.
-fn put_both(c: Core, v: &mut [u8; 16], x: u8, b: u8, f: u8) -> Core
+pub fn put_both(c: Core, v: &mut [u8; 16], x: u8, b: u8, f: u8) -> Core
     requires { ⌜ c .pc ≤ 4094 ⌝ }
     ensures { λ r. ⌜
         ((stack : List ℕ) → whole r (now (v .exit)) stack ≡ state.onward
@@ -119,20 +89,6 @@ pub fn point(c: Core, i: u16) -> Core
 {
     let mut c = c;
     c.i = i;
-    c.pc += 2;
-    c
-}
-
-// The timers are set, and PC goes on.
-fn set_timers(c: Core, delay: u8, tone: u8) -> Core
-    requires { ⌜ c .pc ≤ 4094 ⌝ }
-    ensures { λ r. ⌜
-        ((v stack : List ℕ) → whole r v stack ≡ state.onward
-        (withTimers (record { delay = delay; tone = tone }) (whole c v stack))) ⌝ }
-{
-    let mut c = c;
-    let t = Timers { delay, tone };
-    c.timers = t;
     c.pc += 2;
     c
 }
@@ -158,64 +114,7 @@ pub fn idle(c: Core) -> Core
     with_wait(c, Wait::Idle)
 }
 
-// ---- the instructions
-
-pub fn simple(s: Simple, c: Core, v: &mut [u8; 16], keys: u16, random: u8) -> Core
-    requires { ⌜ c .pc ≤ 4094 ⌝ }
-    ensures { λ r. ⌜
-        ((stack : List ℕ) → whole r (now (v .exit)) stack ≡ state.simple s keys random (whole c (now (v .entry)) stack)) ⌝ }
-{
-    match s {
-        Simple::Jump(a) => jump(c, a),
-        Simple::JumpFrom(a) => jump(c, a % 4096 + (get(v, 0) as u16)),
-        Simple::SkipEqual(x, kk) => skip(c, get(v, x) == kk, 4, 2),
-        Simple::SkipDiffers(x, kk) => skip(c, get(v, x) == kk, 2, 4),
-        Simple::SkipSame(x, y) => skip(c, get(v, x) == get(v, y), 4, 2),
-        Simple::SkipOther(x, y) => skip(c, get(v, x) == get(v, y), 2, 4),
-        Simple::SkipDown(x) => skip(c, down(keys, get(v, x) % 16), 4, 2),
-        Simple::SkipUp(x) => skip(c, down(keys, get(v, x) % 16), 2, 4),
-        Simple::Put(x, kk) => put(c, v, x, kk),
-        Simple::Add(x, kk) => {
-            let sum = std::num::wrapping_add_u8(get(v, x), kk);
-            put(c, v, x, sum)
-        }
-        Simple::Chance(x, kk) => put(c, v, x, random & kk),
-        Simple::Copy(x, y) => {
-            let b = get(v, y);
-            put(c, v, x, b)
-        }
-        Simple::Or(x, y) => {
-            let either = get(v, x) | get(v, y);
-            put_both(c, v, x, either, 0)
-        }
-        Simple::And(x, y) => {
-            let both = get(v, x) & get(v, y);
-            put_both(c, v, x, both, 0)
-        }
-        Simple::Plus(x, y) => {
-            let a = get(v, x);
-            let b = get(v, y);
-            put_both(
-                c,
-                v,
-                x,
-                std::num::wrapping_add_u8(a, b),
-                flag((a as u16) + (b as u16) > 255),
-            )
-        }
-        Simple::Minus(x, y) => {
-            let a = get(v, x);
-            let b = get(v, y);
-            put_both(c, v, x, difference(a, b), flag(b <= a))
-        }
-        Simple::Index(a) => point(c, a),
-        Simple::AddIndex(x) => point(c, std::num::wrapping_add_u16(c.i, get(v, x) as u16)),
-        Simple::Digit(x) => point(c, 5 * ((get(v, x) % 16) as u16)),
-        Simple::FromDelay(x) => put(c, v, x, c.timers.delay),
-        Simple::ToDelay(x) => set_timers(c, get(v, x), c.timers.tone),
-        Simple::ToTone(x) => set_timers(c, c.timers.delay, get(v, x)),
-    }
-}
+// ---- the instructions that call, return, or wait for a key
 
 // 2MMM: the address behind this instruction is the last return address.
 pub fn called(c: Core, stack: &mut [u16; Machine::STACK], a: u16) -> Core

@@ -4,8 +4,8 @@ use Prim.Native.Nat.{_+_, _-_, _≤_}
 use native.Mathlib.Omega.{arith}
 use borrow.Author.Needs.{needs}
 use borrow.Author.Tests.{ne-eqb}
-use Rattle.act.proofs.pattern.Statement.{statement}
-use Rattle.act.proofs.pattern.Tie as tie
+use Rattle.transfers.proofs.pattern.Statement.{statement}
+use Rattle.transfers.proofs.pattern.Tie as tie
 
 part-result-end-2 : tie.Need-part-result-end-2
 part-result-end-2 c =

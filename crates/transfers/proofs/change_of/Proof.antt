@@ -1,8 +1,8 @@
 -- Each arm is the definition's clause for the instruction that was matched.
 use borrow.Author.Needs.{needs}
 use Rattle.rules.specs.Step.{changeOf}
-use Rattle.act.proofs.change_of.Statement.{statement}
-use Rattle.act.proofs.change_of.Tie as tie
+use Rattle.transfers.proofs.change_of.Statement.{statement}
+use Rattle.transfers.proofs.change_of.Tie as tie
 
 pub change-of-spec : {M : Type 1} → statement M
 unfolding changeOf

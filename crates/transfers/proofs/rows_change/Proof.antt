@@ -4,8 +4,8 @@ use Prim.Native.Nat.{_-_, min}
 use native.Mathlib.Omega.{arith}
 use borrow.Author.Needs.{needs}
 use borrow.Author.Tests.{eq-eqb, ne-eqb}
-use Rattle.act.proofs.rows_change.Statement.{statement}
-use Rattle.act.proofs.rows_change.Tie as tie
+use Rattle.transfers.proofs.rows_change.Statement.{statement}
+use Rattle.transfers.proofs.rows_change.Tie as tie
 
 returns-2 : tie.Need-returns-2
 returns-2 c =

@@ -3,8 +3,8 @@ use mathlib.Core.Path.{ap, _∙_}
 use borrow.Author.Needs.{needs}
 use Rattle.rules.specs.declared.Wait.the-variants.{Idle}
 use Rattle.rules.specs.State.{withWait}
-use Rattle.act.proofs.store.Statement.{statement}
-use Rattle.act.proofs.store.Tie as tie
+use Rattle.transfers.proofs.store.Statement.{statement}
+use Rattle.transfers.proofs.store.Tie as tie
 
 returns : tie.Need-returns
 returns c =

@@ -1,13 +1,13 @@
 -- The callees' promises, put together.
-use mathlib.Core.Path.{ap, sym, _∙_}
+use mathlib.Core.Path.{ap, _∙_}
 use Prim.Native.Nat.{_%_}
 use native.Mathlib.Omega.{arith}
 use borrow.Author.Needs.{needs}
 use Rattle.rules.specs.declared.Wait.the-variants.{Idle}
 use Rattle.rules.specs.State.{withWait}
 use Rattle.picture.proofs.Laws.{few-darkened}
-use Rattle.act.proofs.draw.Statement.{statement}
-use Rattle.act.proofs.draw.Tie as tie
+use Rattle.transfers.proofs.draw.Statement.{statement}
+use Rattle.transfers.proofs.draw.Tie as tie
 
 returns : tie.Need-returns
 returns c =

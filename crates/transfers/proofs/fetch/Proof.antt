@@ -7,8 +7,8 @@ use Rattle.rules.specs.declared.Wait.the-variants.{Idle}
 use Rattle.rules.specs.Memory.{part}
 use Rattle.rules.specs.State.{upTo, withWait}
 use borrow.Author.Needs.{needs}
-use Rattle.act.proofs.fetch.Statement.{statement}
-use Rattle.act.proofs.fetch.Tie as tie
+use Rattle.transfers.proofs.fetch.Statement.{statement}
+use Rattle.transfers.proofs.fetch.Tie as tie
 
 returns : tie.Need-returns
 returns c stack =

@@ -1,0 +1,2 @@
+-- What an effect makes of the machine.
+pub mod Written

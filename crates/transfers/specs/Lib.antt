@@ -1,0 +1,2 @@
+-- What the contracts of this crate ask for.
+pub mod Within
