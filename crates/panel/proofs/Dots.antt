@@ -75,6 +75,7 @@ module _ (b : ℕ) where
   lower-four i = bit (3 - i) b
 
   doubled : twice b ≡ quad upper-four * 256 + quad lower-four
+  unfolding twice
   doubled = two-quads (bit 7 b) (bit 6 b) (bit 5 b) (bit 4 b) (bit 3 b) (bit 2 b) (bit 1 b) (bit 0 b)
 
   halves : ((quad upper-four * 256 + quad lower-four) / 256 % 256 ≡ quad upper-four) × ((quad upper-four * 256 + quad lower-four) % 256 ≡ quad lower-four)
