@@ -1,4 +1,5 @@
 -- The variables are sixteen.
+use native.Mathlib.Omega.{arith}
 use mathlib.Core.Path.{_≡_}
 use lib.ListN.{length}
 use borrow.Author.Needs.{needs}
@@ -12,4 +13,4 @@ returns : tie.Need-returns
 returns c = rw (sixteen (c .before .before .before .before .before .before)) at (c .before .before .lay .ensures)
 
 pub lay-variables-spec : {M : Type 1} → statement M
-lay-variables-spec = tie.close (tie.spec (search needs) (search needs) (search needs) returns)
+lay-variables-spec = tie.close (tie.spec (λ c. omega arith) (λ c κs. omega arith) (λ c. omega arith) returns)

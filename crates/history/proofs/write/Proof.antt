@@ -9,7 +9,6 @@ use Rattle.rules.specs.Record.{mark, count, fields, recordWith}
 use Rattle.rules.proofs.Laid.{behind}
 use Rattle.rules.proofs.Back.{mark-two}
 use Rattle.parts.specs.Whole.{whole}
-use borrow.Author.Needs.{needs}
 use Rattle.history.proofs.Laid.{over-zeros, between, four-pieces}
 use Rattle.history.proofs.write.Statement.{statement}
 use Rattle.history.proofs.write.Tie as tie
@@ -45,4 +44,4 @@ returns c =
     ∙ sym (four-pieces (mark ch ++ v) f old z)
 
 pub write-spec : {M : Type 1} → statement M
-write-spec = tie.close (tie.spec (search needs) (search needs) (search needs) (search needs) (search needs) (search needs) (search needs) (search needs) (search needs) (search needs) returns)
+write-spec = tie.close (tie.spec (λ c κs. tt) (λ c κs. omega arith) (λ c. omega arith) (λ c κs. omega arith) (λ c. omega arith) (λ c κs. omega arith) (λ c κs. omega arith) (λ c κs. omega arith) (λ c κs. omega arith) (λ c. omega arith) returns)
