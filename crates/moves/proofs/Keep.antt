@@ -11,7 +11,7 @@ use Rattle.rules.specs.Memory.{part}
 use Rattle.rules.specs.Record.{old, count}
 use Rattle.rules.proofs.Parts.{part-length}
 use Rattle.rules.proofs.Undo.{Fits}
-use Rattle.history.specs.Writable.{Writable}
+use Rattle.keeping.specs.Writable.{Writable}
 
 -- the part of a list from s to s + n has n elements
 pub lent-part : (s n : ℕ) (l : List ℕ) → take (s + n - s) (drop s l) ≡ part l s n

@@ -3,8 +3,8 @@ use native.Mathlib.Omega.{arith}
 use mathlib.Core.Path.{_≡_}
 use lib.ListN.{length}
 use borrow.Author.Needs.{needs}
-use Rattle.history.proofs.lay_variables.Statement.{statement}
-use Rattle.history.proofs.lay_variables.Tie as tie
+use Rattle.keeping.proofs.lay_variables.Statement.{statement}
+use Rattle.keeping.proofs.lay_variables.Tie as tie
 
 sixteen : (c : tie.Start) → length (c .args .t2) ≡ 16
 sixteen c = search needs
