@@ -1,9 +1,9 @@
 -- Each piece was put where the one before it ends, so that they are one line.
-use borrow.Author.Needs.{needs}
+use native.Mathlib.Omega.{arith}
 use Rattle.text.proofs.Joined.{joined}
-use Rattle.text.specs.Line.{stopLine}
-use Rattle.text.proofs.line.put_stop.Statement.{statement}
-use Rattle.text.proofs.line.put_stop.Tie as tie
+use Rattle.line.specs.Line.{stopLine}
+use Rattle.line.proofs.put_stop.Statement.{statement}
+use Rattle.line.proofs.put_stop.Tie as tie
 
 returns : tie.Need-returns
 unfolding stopLine
@@ -17,5 +17,4 @@ returns c =
 pub put-stop-spec : {M : Type 1} → statement M
 put-stop-spec =
     tie.close
-    (tie.spec (search needs) (search needs) (search needs) (search needs) (search needs) (search needs) (search needs) (search needs)
-    (search needs) returns)
+    (tie.spec (λ c. omega arith) (λ c κs. omega arith) (λ c κs. omega arith) (λ c. omega arith) (λ c κs. omega arith) (λ c κs. omega arith) (λ c. omega arith) (λ c κs. omega arith) (λ c. omega arith) returns)

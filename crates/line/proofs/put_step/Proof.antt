@@ -1,10 +1,9 @@
 -- Each piece was put where the one before it ends, so that they are one line.
 use native.Mathlib.Omega.{arith}
-use borrow.Author.Needs.{needs}
 use Rattle.text.proofs.Joined.{joined}
-use Rattle.text.specs.Line.{stepLine}
-use Rattle.text.proofs.line.put_step.Statement.{statement}
-use Rattle.text.proofs.line.put_step.Tie as tie
+use Rattle.line.specs.Line.{stepLine}
+use Rattle.line.proofs.put_step.Statement.{statement}
+use Rattle.line.proofs.put_step.Tie as tie
 
 returns : tie.Need-returns
 unfolding stepLine
@@ -28,5 +27,4 @@ returns c =
 pub put-step-spec : {M : Type 1} → statement M
 put-step-spec =
     tie.close
-    (tie.spec (search needs) (search needs) (search needs) (search needs) (search needs) (search needs) (search needs) (search needs)
-    (search needs) returns)
+    (tie.spec (λ c κs. omega arith) (λ c κs. omega arith) (λ c κs. omega arith) (λ c κs. omega arith) (λ c κs. omega arith) (λ c κs. omega arith) (λ c. omega arith) (λ c κs. omega arith) (λ c. omega arith) returns)
