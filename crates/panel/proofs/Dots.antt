@@ -2,7 +2,7 @@
 use mathlib.Core.Path.{_≡_, refl, sym, ap, ap₂, _∙_}
 use mathlib.Core.Bool.{true, false, false≢true}
 use mathlib.Core.List.{List}
-use Prim.Native.Nat.{ℕ, zero, suc, _+_, _-_, _*_, _/_, _%_, _^_, _≤_, _<_}
+use Prim.Native.Nat.{ℕ, zero, suc, _+_, _-_, _*_, _/_, _%_, _≤_, _<_}
 use native.Mathlib.Nat.{mod-lt, not-suc-le-zero, zero-lt-suc, add-zero, zero-add}
 use native.Mathlib.Decide.{ℕ-discrete, decLt}
 use native.Mathlib.Omega.{arith}
@@ -15,7 +15,7 @@ use Rattle.rules.specs.Refusal.{number as refusal}
 use Rattle.rules.specs.Picture.{spot, byteOf}
 use Rattle.rules.proofs.OnlyOne.{one-outcome}
 use Rattle.rules.proofs.Drawn.{number, same, half, odd, byte-is}
-use Rattle.panel.specs.Panel.{panelSize, dot, PanelOf, dotBytes, panelOf, twice, fits, Shows}
+use Rattle.panel.specs.Panel.{PanelOf, dotBytes, panelOf, twice, fits, Shows}
 use Rattle.panel.specs.Bytes.{pair, source, above, Upper, Repeated, Doubled}
 
 -- ---- a byte and its bits

@@ -1,5 +1,4 @@
 -- Two numbers, one behind the other; of each the last two bytes count.
-use mathlib.Core.Path.{_≡_, _∙_}
 use native.Mathlib.Omega.{arith}
 use Rattle.image.proofs.Pieces.{two-words}
 use Rattle.image.proofs.lay_numbers.Statement.{statement}
