@@ -1,2 +1,3 @@
 -- What is claimed of images.
+pub mod Pieces
 pub mod ReadsBack

@@ -1,22 +1,19 @@
 -- An image that is read and written again is the same bytes: a word that is read is written as its two bytes, and an image is its bytes.
-use mathlib.Core.Path.{_≡_, refl, sym, ap, ap₂, _∙_}
-use mathlib.Core.Bool.{true, _&&_, and-eq-true-iff}
+use mathlib.Core.Path.{_≡_, refl, sym, ap, _∙_}
+use mathlib.Core.Bool.{true}
 use mathlib.Core.List.{List, [], _∷_, _++_, append-assoc}
-use Prim.Native.Nat.{ℕ, zero, suc, _+_, _*_, _/_, _%_, _≤_, _<_}
+use Prim.Native.Nat.{ℕ, zero, suc, _+_, _/_, _%_, _≤_, _<_}
 use native.Mathlib.Nat.{add-zero}
 use native.Mathlib.Numerals.{add-one}
 use native.Mathlib.Omega.{arith}
-use lib.ListN.{getD, length, take, drop, replicate, take-append-drop, length-drop}
+use lib.ListN.{length, take, drop, replicate, take-append-drop, length-drop}
 use lib.Seq.{drop-cons}
-use lib.Dec.{eqb}
-use borrow.Author.Tests.{eqb-true, eq-eqb, ne-eqb}
-use Rattle.rules.specs.declared.Wait.the-variants.{Idle, Held}
-use Rattle.rules.specs.Number.{pick, word}
 use Rattle.rules.specs.State.{zeros}
 use Rattle.rules.specs.Record.{byteAt, wordAt, heldByte}
 use Rattle.rules.specs.Typed.{Below}
 use Rattle.rules.proofs.Choices.{by-test}
 use Rattle.rules.proofs.Parts.{zeroes, below-get}
+use Rattle.rules.proofs.Sound.{zeros-are}
 use Rattle.rules.specs.Memory.{part}
 use Rattle.image.specs.Image.{imageOf, machineOf, trailOf, waitOf, depthOf, middle, sixFrom, numbers, ReadsBack}
 
@@ -32,10 +29,6 @@ unroll zero k b h = rw add-zero
 unroll (suc n) k b h =
     let e : k + suc n ≡ k + 1 + n = omega arith in
     rw (drop-cons b k 0 (omega arith), e, ← add-one k) (ap (λ (l : List ℕ). byteAt b k ∷ l) (unroll n (k + 1) b (omega arith)))
-
-zeros-are : (l : List ℕ) → zeros l ≡ true → l ≡ zeroes (length l)
-zeros-are [] e = refl
-zeros-are (x ∷ xs) e = let s = and-eq-true-iff (eqb x 0) (zeros xs) .0 e in ap₂ _∷_ (eqb-true x 0 (s .0)) (zeros-are xs (s .1))
 
 held-back : (x : ℕ) → heldByte (waitOf x) ≡ x
 held-back x = by-test (λ w. heldByte w ≡ x) x 0xFF (λ e. sym e) (λ ne. refl)

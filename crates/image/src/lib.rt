@@ -1,11 +1,14 @@
 // A state and its two numbers, read from an image of 64 bytes and written to one.
 ghost use mathlib.Core.Path.{_≡_};
+ghost use mathlib.Core.List.{_++_};
+ghost use Prim.Native.Nat.{_+_, _<_};
 ghost use lib.ListN.{drop, length};
-ghost use Rattle.rules.specs.Number.{pick};
+ghost use Rattle.rules.specs.Number.{pick, word};
 ghost use Rattle.rules.specs.State.{zeros};
 ghost use Rattle.rules.specs.Memory.{part};
 ghost use Rattle.rules.specs.Record.{heldByte};
-ghost use Rattle.image.specs.Image.{imageSize, middle, six, numbers, imageOf, waitOf, stackOf, machineOf, trailOf};
+ghost use Rattle.image.specs.Image.{imageSize, middle, sixFrom, numbers, imageOf, waitOf, stackOf, machineOf, trailOf};
+ghost use Rattle.image.specs.Laid.{Stands};
 use rules::Machine;
 use rules::Timers;
 use rules::Trail;
@@ -151,34 +154,49 @@ fn middle_of(m: Machine) -> [u8; 8]
     ]
 }
 
-fn six_of(a: u16, b: u16, c: u16, d: u16, e: u16, f: u16) -> [u8; 12]
-    ensures { λ r. ⌜ r ≡ six a b c d e f ⌝ }
+// The variables and the stack come by value, so that they can't lie where they are written.
+fn lay_variables(image: &mut [u8], v: [u8; 16])
+    requires { ⌜ length (now image) ≡ imageSize ⌝ }
+    ensures { λ _. ⌜ Stands v (now (image .entry)) 0 (now (image .exit)) 16 ⌝ }
 {
-    [
-        memory::high(a),
-        memory::low(a),
-        memory::high(b),
-        memory::low(b),
-        memory::high(c),
-        memory::low(c),
-        memory::high(d),
-        memory::low(d),
-        memory::high(e),
-        memory::low(e),
-        memory::high(f),
-        memory::low(f),
-    ]
+    memory::lay(image, 0, &v);
 }
 
-fn numbers_of(t: Trail) -> [u8; 4]
-    ensures { λ r. ⌜ r ≡ numbers t ⌝ }
+// The middle, behind the variables.
+fn lay_middle(image: &mut [u8], m: Machine)
+    requires { ⌜ length (now image) ≡ imageSize ⌝ }
+    ensures { λ _. ⌜ Stands (middle m) (now (image .entry)) 16 (now (image .exit)) 24 ⌝ }
 {
-    [
-        (t.next / 256 % 256) as u8,
-        (t.next % 256) as u8,
-        (t.kept / 256 % 256) as u8,
-        (t.kept % 256) as u8,
-    ]
+    let middle = middle_of(m);
+    memory::lay(image, 16, &middle);
+}
+
+// A number of two bytes. What stands behind it is laid later.
+fn put_word(image: &mut [u8], at: usize, n: u16)
+    requires { ⌜ at + 1 < length (now image) ⌝ }
+    ensures { λ _. ⌜ Stands (word n) (now (image .entry)) at (now (image .exit)) (at + 2) ⌝ }
+{
+    image[at] = memory::high(n);
+    image[at + 1] = memory::low(n);
+}
+
+fn lay_stack(image: &mut [u8], stack: [u16; 12])
+    requires { ⌜ length (now image) ≡ imageSize ⌝ }
+    ensures { λ _. ⌜ Stands (sixFrom 0 stack ++ sixFrom 6 stack) (now (image .entry)) 24 (now (image .exit)) 48 ⌝ }
+{
+    let mut k = 0;
+    while k < 12 {
+        put_word(image, 24 + 2 * k, stack[k]);
+        k += 1;
+    }
+}
+
+fn lay_numbers(image: &mut [u8], t: Trail)
+    requires { ⌜ length (now image) ≡ imageSize ⌝ }
+    ensures { λ _. ⌜ Stands (numbers t) (now (image .entry)) 48 (now (image .exit)) 52 ⌝ }
+{
+    put_word(image, 48, (t.next % 65536) as u16);
+    put_word(image, 50, (t.kept % 65536) as u16);
 }
 
 // Writes the image of a state and its numbers.
@@ -187,15 +205,10 @@ pub fn write(image: &mut [u8], m: Machine, t: Trail)
     ensures { λ _. ⌜ now (image .exit) ≡ imageOf m t ⌝ }
 {
     let v = m.v;
-    let middle = middle_of(m);
-    let s = m.stack;
-    let lower = six_of(s[0], s[1], s[2], s[3], s[4], s[5]);
-    let upper = six_of(s[6], s[7], s[8], s[9], s[10], s[11]);
-    let numbers = numbers_of(t);
-    memory::lay(image, 0, &v);
-    memory::lay(image, 16, &middle);
-    memory::lay(image, 24, &lower);
-    memory::lay(image, 36, &upper);
-    memory::lay(image, 48, &numbers);
+    let stack = m.stack;
+    lay_variables(image, v);
+    lay_middle(image, m);
+    lay_stack(image, stack);
+    lay_numbers(image, t);
     memory::clear(image, 52);
 }

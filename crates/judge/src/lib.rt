@@ -29,13 +29,13 @@ use rules::Wait;
 pub fn places(history: &[u8]) -> usize
     ensures { λ r. ⌜ r ≡ fit.places (now (history .entry)) ⌝ }
 {
-    history.len() / history::PLACE
+    history.len() / keeping::PLACE
 }
 
 pub fn history_fits(history: &[u8]) -> bool
     ensures { λ r. ⌜ r ≡ fit.historyFits (now (history .entry)) ⌝ }
 {
-    (history::PLACE <= history.len()) & (history.len() <= 65536)
+    (keeping::PLACE <= history.len()) & (history.len() <= 65536)
 }
 
 // It also tells what the types say of the bytes that are lent, which the rules' theorems ask for.

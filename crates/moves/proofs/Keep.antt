@@ -10,7 +10,7 @@ use Rattle.rules.specs.declared.Change.the-variants.{Nothing, InMemory, InPictu
 use Rattle.rules.specs.Record.{old, count}
 use Rattle.rules.proofs.Parts.{part-length}
 use Rattle.rules.proofs.Undo.{Fits}
-use Rattle.history.specs.Writable.{Writable}
+use Rattle.keeping.specs.Writable.{Writable}
 
 module _ (mem pic : List ℕ) (memory : length mem ≡ 4096) (picture : length pic ≡ 256) where
   old-counted : (c : Change) → Fits c → (length (old c mem pic) ≡ count c) × (count c ≤ 256)

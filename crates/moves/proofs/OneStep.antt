@@ -30,7 +30,7 @@ use Rattle.rules.proofs.Given.{Back, given-refused, answered-done, refused-some
 use Rattle.act.specs.Accepted.{Accepted}
 use Rattle.act.specs.Became.{Became}
 use Rattle.act.specs.Drawn.{patternBytes}
-use Rattle.history.specs.Writable.{Writable}
+use Rattle.keeping.specs.Writable.{Writable}
 use Rattle.moves.specs.Inner.{Tickable}
 use Rattle.moves.proofs.Keep.{writable}
 

@@ -132,7 +132,7 @@ pub fn step(
     let places = judge::places(history);
     let change = transfers::change_of(op, c, v);
     let next = trail.next;
-    history::keep(
+    keeping::keep(
         history,
         next,
         c,
@@ -169,7 +169,7 @@ pub fn tick(
 {
     let places = judge::places(history);
     let next = trail.next;
-    history::keep(history, next, c, v, stack, Change::Nothing, b"");
+    keeping::keep(history, next, c, v, stack, Change::Nothing, b"");
     Moved {
         outcome: Outcome::Done,
         core: clock::tick(c),

@@ -2,7 +2,7 @@
 use mathlib.Core.Path.{_≡_, refl, sym, ap, ap₂, _∙_}
 use mathlib.Core.Bool.{true, false, false≢true}
 use mathlib.Core.List.{List}
-use Prim.Native.Nat.{ℕ, zero, suc, _+_, _-_, _*_, _/_, _%_, _^_, _≤_, _<_}
+use Prim.Native.Nat.{ℕ, zero, suc, _+_, _-_, _*_, _/_, _%_, _≤_, _<_}
 use native.Mathlib.Nat.{mod-lt, not-suc-le-zero, zero-lt-suc, add-zero, zero-add}
 use native.Mathlib.Decide.{ℕ-discrete, decLt}
 use native.Mathlib.Omega.{arith}
@@ -15,7 +15,7 @@ use Rattle.rules.specs.Refusal.{number as refusal}
 use Rattle.rules.specs.Picture.{spot, byteOf}
 use Rattle.rules.proofs.OnlyOne.{one-outcome}
 use Rattle.rules.proofs.Drawn.{number, same, half, odd, byte-is}
-use Rattle.panel.specs.Panel.{panelSize, dot, PanelOf, dotBytes, panelOf, twice, fits, Shows}
+use Rattle.panel.specs.Panel.{PanelOf, dotBytes, panelOf, twice, fits, Shows}
 use Rattle.panel.specs.Bytes.{pair, source, above, Upper, Repeated, Doubled}
 
 -- ---- a byte and its bits
@@ -75,6 +75,7 @@ module _ (b : ℕ) where
   lower-four i = bit (3 - i) b
 
   doubled : twice b ≡ quad upper-four * 256 + quad lower-four
+  unfolding twice
   doubled = two-quads (bit 7 b) (bit 6 b) (bit 5 b) (bit 4 b) (bit 3 b) (bit 2 b) (bit 1 b) (bit 0 b)
 
   halves : ((quad upper-four * 256 + quad lower-four) / 256 % 256 ≡ quad upper-four) × ((quad upper-four * 256 + quad lower-four) % 256 ≡ quad lower-four)

@@ -35,7 +35,7 @@ unfoldable pub panelOf : List ℕ → List ℕ
 panelOf picture = dotBytes (λ x y. spot picture (x / 2) (y / 2)) panelSize 0
 
 -- a byte with each bit standing twice, in 16 bits
-abbrev pub twice : ℕ → ℕ
+unfoldable pub twice : ℕ → ℕ
 twice b =
     bit 7 b * 0xC000 + bit 6 b * 0x3000 + bit 5 b * 0x0C00 + bit 4 b * 0x0300
     + bit 3 b * 0x00C0 + bit 2 b * 0x0030 + bit 1 b * 0x000C + bit 0 b * 0x0003

@@ -20,7 +20,8 @@ zeros-all (suc n) = zeros-all n
 pub good-sound : (m : Machine) → GoodMachine m → sound m ≡ true
 good-sound m g = and-both (and-both (le-leb (m .depth) 12 (g .calls .most)) (rw (g .calls .unused) (zeros-all (12 - m .depth)))) (g .wait)
 
-zeros-are : (l : List ℕ) → zeros l ≡ true → l ≡ zeroes (length l)
+-- a list that is clear is as many zeros as it is long
+pub zeros-are : (l : List ℕ) → zeros l ≡ true → l ≡ zeroes (length l)
 zeros-are [] e = refl
 zeros-are (x ∷ xs) e = let s = and-eq-true-iff (eqb x 0) (zeros xs) .0 e in ap₂ _∷_ (eqb-true x 0 (s .0)) (zeros-are xs (s .1))
 

@@ -1,13 +1,12 @@
 // Text that the programs write, put into a buffer of the caller's. Each function answers the index after what it put, where the next goes on.
-pub mod line;
-
 ghost use mathlib.Core.Path.{_≡_};
 ghost use mathlib.Core.List.{_∷_};
 ghost use Prim.Native.Nat.{_+_, _%_, _≤_, _<_};
-ghost use lib.ListN.{length};
+ghost use lib.ListN.{length, drop};
 ghost use Rattle.rules.specs.Refusal as refusal;
 ghost use Rattle.text.specs.Put.{Put};
 ghost use Rattle.text.specs.Text.{space, glyphOf, hexOf, wideHexOf, decimalOf};
+ghost use Rattle.text.specs.Digits.{threeDigits};
 use rules::Outcome;
 use rules::Refusal;
 
@@ -63,22 +62,29 @@ pub fn put_wide_hex(out: &mut [u8], at: usize, n: u16) -> usize
     put(out, at, &digits)
 }
 
+// How many of a byte's three decimal digits are zeros in front.
+fn zeros_before(n: u8) -> usize
+    ensures { λ r. ⌜ drop r (threeDigits n) ≡ decimalOf n ⌝ }
+    ensures { λ r. ⌜ r ≤ 2 ⌝ }
+{
+    if n < 10 {
+        2
+    } else if n < 100 {
+        1
+    } else {
+        0
+    }
+}
+
 // A byte in decimal, with no space before it.
 pub fn put_decimal(out: &mut [u8], at: usize, n: u8) -> usize
     requires { ⌜ at + 3 ≤ length (now out) ⌝ }
     ensures { λ r. ⌜ Put (decimalOf n) (now (out .entry)) at (now (out .exit)) r ⌝ }
     ensures { λ r. ⌜ r ≤ at + 3 ⌝ }
 {
-    if n < 10 {
-        let digits = [glyph(n)];
-        return put(out, at, &digits);
-    }
-    if n < 100 {
-        let digits = [glyph(n / 10), glyph(n % 10)];
-        return put(out, at, &digits);
-    }
     let digits = [glyph(n / 100), glyph(n / 10 % 10), glyph(n % 10)];
-    put(out, at, &digits)
+    let first = zeros_before(n);
+    put(out, at, &digits[first..])
 }
 
 // The paper's number of a refusal.

@@ -16,7 +16,7 @@ use Rattle.io.specs.Counts.{Counts}
 use Rattle.text.specs.Put.{Put}
 use Rattle.text.proofs.Joined.{kept, so-far}
 use Rattle.rules.specs.Load.{load}
-use Rattle.text.specs.Line.{header, stopLine}
+use Rattle.line.specs.Line.{header, stopLine}
 use Rattle.trace.specs.Trace.{lineOf, stepsFrom, blankMemory, blankPicture, blankHistory, traceOf}
 
 -- before step n; each step to come may take 25 bytes, and the last line 17

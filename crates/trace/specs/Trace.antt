@@ -9,7 +9,7 @@ use Rattle.rules.specs.Record.{placeSize}
 use Rattle.rules.specs.World.{World}
 use Rattle.rules.specs.Load.{load}
 use Rattle.rules.specs.Call.{step}
-use Rattle.text.specs.Line.{header, stepLine, stopLine}
+use Rattle.line.specs.Line.{header, stepLine, stopLine}
 
 -- the two bytes at PC, as one number
 abbrev pub wordAt : List ℕ → ℕ → ℕ

@@ -8,7 +8,6 @@ ghost use Rattle.rules.specs.World.{world};
 ghost use Rattle.trace.specs.Trace as rule;
 use rules::Machine;
 use rules::Trail;
-use text::line;
 
 // The byte at an address, and 0 past the end.
 fn byte_at(memory: &[u8], at: usize) -> u16

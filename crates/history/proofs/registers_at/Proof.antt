@@ -4,7 +4,6 @@ use native.Mathlib.Omega.{arith}
 use lib.ListN.{length, length-take, length-drop}
 use Rattle.rules.specs.Memory.{part}
 use Rattle.rules.proofs.Laid.{over-all}
-use borrow.Author.Needs.{needs}
 use Rattle.history.proofs.registers_at.Statement.{statement}
 use Rattle.history.proofs.registers_at.Tie as tie
 
@@ -16,4 +15,4 @@ returns c =
 
 pub registers-at-spec : {M : Type 1} → statement M
 registers-at-spec =
-    tie.close (tie.spec (search needs) (search needs) (search needs) (search needs) (search needs) returns)
+    tie.close (tie.spec (λ c. omega arith) (λ c. omega arith) (λ c. omega arith) (λ c. omega arith) (λ c κs. omega arith) returns)

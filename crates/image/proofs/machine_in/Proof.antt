@@ -1,21 +1,28 @@
 -- Each part is its callee's.
-use borrow.Author.Needs.{needs}
-use Rattle.image.specs.Image.{machineOf}
+use mathlib.Core.Path.{_≡_}
+use native.Mathlib.Omega.{arith}
+use Rattle.rules.specs.Record.{byteAt}
+use Rattle.image.specs.Image.{depthOf, machineOf}
 use Rattle.image.proofs.machine_in.Statement.{statement}
 use Rattle.image.proofs.machine_in.Tie as tie
 
 returns : tie.Need-returns
 unfolding machineOf
-returns c =
-    rw (
-      c .before .before .before .before .before .before .before .before .before .before .registers-in .ensures,
-      c .before .before .before .before .before .before .before .before .before .stack-in .ensures,
-      c .before .before .before .before .before .before .word-at .ensures,
-      c .before .before .before .before .before .word-at2 .ensures,
-      c .before .before .depth-of .ensures,
-      c .before .before .before .before .ends-clear .ensures,
-      c .wait-of .ensures,
-    )
+returns c at =
+    let depth = c .before .before in
+    let pc = depth .before .before .before in
+    let arrays = pc .before .before .before in
+    let image = arrays .before .before .before .before .args .image .now in
+    let calls : depth .depth-of .result ≡ depthOf image = rw (depth .depth-of .ensures, depth .before .before .ends-clear .ensures) in
+    record {
+      v = arrays .before .before .registers-in .ensures at;
+      i = pc .before .word-at .ensures at;
+      pc = pc .word-at2 .ensures at;
+      stack = arrays .before .stack-in .ensures at;
+      depth = calls at;
+      timers = record { delay = byteAt image 21; tone = byteAt image 22 };
+      wait = c .wait-of .ensures at;
+    }
 
 pub machine-in-spec : {M : Type 1} → statement M
-machine-in-spec = tie.close (tie.spec (search needs) (search needs) (search needs) (search needs) (search needs) (search needs) (search needs) (search needs) (search needs) (search needs) (search needs) returns)
+machine-in-spec = tie.close (tie.spec (λ c κs. omega arith) (λ c κs. omega arith) (λ c. omega arith) (λ c. omega arith) (λ c κs. omega arith) (λ c κs. omega arith) (λ c κs. omega arith) (λ c. omega arith) (λ c κs. tt) (λ c. omega arith) (λ c κs. tt) returns)

@@ -4,7 +4,6 @@ use native.Mathlib.Omega.{arith}
 use lib.ListN.{length, length-take, length-drop}
 use Rattle.rules.specs.Memory.{part}
 use Rattle.rules.proofs.Laid.{over-all}
-use borrow.Author.Needs.{needs}
 use Rattle.image.proofs.registers_in.Statement.{statement}
 use Rattle.image.proofs.registers_in.Tie as tie
 
@@ -15,4 +14,4 @@ returns c =
     c .before .lay .ensures ∙ over-all _ p (omega (arith, sixteen))
 
 pub registers-in-spec : {M : Type 1} → statement M
-registers-in-spec = tie.close (tie.spec (search needs) (search needs) (search needs) (search needs) (search needs) returns)
+registers-in-spec = tie.close (tie.spec (λ c. omega arith) (λ c. omega arith) (λ c. omega arith) (λ c. omega arith) (λ c κs. omega arith) returns)

@@ -1,5 +1,5 @@
 -- Both numbers are the callee's.
-use borrow.Author.Needs.{needs}
+use native.Mathlib.Omega.{arith}
 use Rattle.image.specs.Image.{trailOf}
 use Rattle.image.proofs.trail_in.Statement.{statement}
 use Rattle.image.proofs.trail_in.Tie as tie
@@ -9,4 +9,4 @@ unfolding trailOf
 returns c = rw (c .before .word-at .ensures, c .word-at2 .ensures)
 
 pub trail-in-spec : {M : Type 1} → statement M
-trail-in-spec = tie.close (tie.spec (search needs) (search needs) (search needs) (search needs) returns)
+trail-in-spec = tie.close (tie.spec (λ c κs. omega arith) (λ c. omega arith) (λ c κs. omega arith) (λ c. omega arith) returns)

@@ -2,7 +2,6 @@
 use mathlib.Core.Path.{_≡_}
 use native.Mathlib.Omega.{arith}
 use lib.ListN.{length, take, length-take}
-use borrow.Author.Needs.{needs}
 use Rattle.memory.proofs.store.Statement.{statement}
 use Rattle.memory.proofs.store.Tie as tie
 
@@ -19,4 +18,4 @@ returns : tie.Need-returns
 returns c = rw (counted (c .before .before .before .before .before .before .before)) at (c .before .before .lay .ensures)
 
 pub store-spec : {M : Type 1} → statement M
-store-spec = tie.close (tie.spec slice-aggregate-lay lay-requires (search needs) returns)
+store-spec = tie.close (tie.spec slice-aggregate-lay lay-requires (λ c. omega arith) returns)

@@ -3,6 +3,7 @@ use mathlib.Core.Path.{refl}
 use mathlib.Core.Bool.{and-false}
 use borrow.Author.Needs.{needs}
 use borrow.Author.Tests.{eq-eqb, ne-eqb}
+use Rattle.panel.specs.Panel.{twice}
 use Rattle.panel.proofs.Entries.{doubles}
 use Rattle.panel.proofs.Dots.{refused, filled, both-rows}
 use Rattle.panel.proofs.panel.Statement.{statement}
@@ -15,6 +16,7 @@ returns-2 : tie.Need-returns-2
 returns-2 c = refused _ _ _ (rw (ne-eqb _ _ (c .if2 .taken), and-false)) refl
 
 fill-upper-requires : tie.Need-fill-upper-requires
+unfolding twice
 fill-upper-requires c κs = (search needs, search needs, doubles _ refl tt)
 
 returns-3 : tie.Need-returns-3

@@ -4,7 +4,7 @@ use Rattle.panel.proofs.two_doubled.Statement.{statement}
 use Rattle.panel.proofs.two_doubled.Tie as tie
 
 returns : tie.Need-returns
-returns c = cc
+returns c = rw (c .before .before .doubled .ensures, c .doubled2 .ensures)
 
 pub two-doubled-spec : {M : Type 1} → statement M
 two-doubled-spec =

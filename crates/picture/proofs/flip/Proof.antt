@@ -20,4 +20,4 @@ returns c =
     )
 
 pub flip-spec : {M : Type 1} → statement M
-flip-spec = tie.close (tie.spec (search needs) (search needs) (search needs) (search needs) (search needs) (λ c. simp length-set (omega arith)) (search needs) returns)
+flip-spec = tie.close (tie.spec (λ c κs. omega arith) (λ c κs. tt) (λ c. omega arith) (λ c κs. tt) (λ c. omega arith) (λ c. simp length-set (omega arith)) (search needs) returns)

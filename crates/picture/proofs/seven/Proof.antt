@@ -3,7 +3,6 @@ use mathlib.Core.Path.{_≡_, sym, ap, _∙_}
 use mathlib.Core.List.{List}
 use Prim.Native.Nat.{ℕ, _+_, _-_, _*_, _^_, _≤_, _<_}
 use native.Mathlib.Omega.{arith}
-use borrow.Author.Needs.{needs}
 use lib.Bits.{bitAnd}
 use lib.Count.{ones}
 use lib.ListN.{length, getD}
@@ -56,7 +55,7 @@ loop-again c =
           (side-by-side o k (l .loop .dark) _ (l .loop .inv .4) (put-out c))),
       omega arith,
       omega arith,
-      search needs,
+      omega arith,
       rw next (one-more o k (l .loop .dark) _ (l .loop .inv .4) (put-out c)),
     )
 
@@ -67,5 +66,5 @@ pub seven-spec : {M : Type 1} → statement M
 seven-spec =
     tie.close (tie.spec Inv-loop μ-loop loop-holds
     (λ c. omega arith) (λ c. omega arith) (λ c. omega arith) (λ c. omega arith) (λ c κs. omega arith) (λ c κs. omega arith)
-    (λ c. omega (arith, fits c)) (search needs) (λ c. omega (arith, fits c)) (λ c. omega arith) (λ c. omega arith)
+    (λ c. omega (arith, fits c)) (λ c. omega arith) (λ c. omega (arith, fits c)) (λ c. omega arith) (λ c. omega arith)
     loop-again (λ c. c .before .loop .inv .3 ∙ sym (c .before .before .before .before .pre .0 .0)) returns)

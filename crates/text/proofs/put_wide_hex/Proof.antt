@@ -1,5 +1,5 @@
 -- What was put is the space and the four digits.
-use borrow.Author.Needs.{needs}
+use native.Mathlib.Omega.{arith}
 use Rattle.text.proofs.put_wide_hex.Statement.{statement}
 use Rattle.text.proofs.put_wide_hex.Tie as tie
 
@@ -14,4 +14,4 @@ returns c =
 pub put-wide-hex-spec : {M : Type 1} → statement M
 put-wide-hex-spec =
     tie.close
-    (tie.spec (search needs) (search needs) (search needs) (search needs) (search needs) (search needs) (search needs) returns)
+    (tie.spec (λ c κs. tt) (λ c κs. tt) (λ c κs. tt) (λ c κs. tt) (λ c. omega arith) (λ c κs. omega arith) (λ c. omega arith) returns)

@@ -1,0 +1,172 @@
+// A history's records, written. The specs of `rules`, Record.antt, say what a record is.
+ghost use mathlib.Core.Path.{_≡_};
+ghost use mathlib.Core.List.{List};
+ghost use Prim.Native.Nat.{ℕ, _+_, _-_, _*_, _≤_};
+ghost use lib.Dec.{eqb};
+ghost use lib.ListN.{length, getD};
+ghost use Rattle.keeping.specs.Writable.{Writable};
+ghost use Rattle.rules.specs.Number.{pick};
+ghost use Rattle.rules.specs.Memory.{over};
+ghost use Rattle.rules.specs.State.{stackSize};
+ghost use Rattle.rules.specs.Record.{placeSize, atV, mark, start, count, heldByte, fields, recordWith};
+ghost use Rattle.parts.specs.Whole.{whole};
+use parts::Core;
+use rules::Change;
+use rules::Machine;
+use rules::Wait;
+
+// How many bytes a place has, and where each part of its record begins.
+pub const PLACE: usize = 288;
+
+pub const AT_MARK: usize = 0;
+
+pub const AT_V: usize = 2;
+
+pub const AT_I: usize = 18;
+
+pub const AT_PC: usize = 20;
+
+pub const AT_DEPTH: usize = 22;
+
+pub const AT_LAST: usize = 23;
+
+pub const AT_DELAY: usize = 25;
+
+pub const AT_TONE: usize = 26;
+
+pub const AT_HELD: usize = 27;
+
+pub const AT_START: usize = 28;
+
+pub const AT_COUNT: usize = 30;
+
+pub const AT_OLD: usize = 32;
+
+// ---- the parts of a record
+
+fn mark_of(c: Change) -> [u8; 2]
+    ensures { λ r. ⌜ r ≡ mark c ⌝ }
+{
+    match c {
+        Change::Nothing => *b"NO",
+        Change::InMemory(_, _) => *b"ME",
+        Change::InPicture(_, _) => *b"DI",
+    }
+}
+
+fn start_of(c: Change) -> u16
+    ensures { λ r. ⌜ r ≡ start c ⌝ }
+{
+    match c {
+        Change::Nothing => 0,
+        Change::InMemory(s, _) => s,
+        Change::InPicture(s, _) => s,
+    }
+}
+
+fn count_of(c: Change) -> u16
+    ensures { λ r. ⌜ r ≡ count c ⌝ }
+{
+    match c {
+        Change::Nothing => 0,
+        Change::InMemory(_, n) => n,
+        Change::InPicture(_, n) => n,
+    }
+}
+
+// 0 where nothing is on the stack.
+fn last_return(depth: u8, stack: &[u16; Machine::STACK]) -> u16
+    requires { ⌜ depth ≤ stackSize ⌝ }
+    ensures { λ r. ⌜ r ≡ pick (eqb depth 0) 0 (getD (now (stack .entry)) (depth - 1) 0) ⌝ }
+{
+    let above = depth as usize;
+    if above == 0 { 0 } else { stack[above - 1] }
+}
+
+fn held_byte(w: Wait) -> u8
+    ensures { λ r. ⌜ r ≡ heldByte w ⌝ }
+{
+    match w {
+        Wait::Idle => 0xFF,
+        Wait::Held(k) => k,
+    }
+}
+
+// What lies between the registers and the old bytes.
+fn fields_of(c: Core, stack: &[u16; Machine::STACK], change: Change) -> [u8; 14]
+    requires { ⌜ c .depth ≤ stackSize ⌝ }
+    ensures { λ r. ⌜ ((v : List ℕ) → r ≡ fields (whole c v (now (stack .entry))) change) ⌝ }
+{
+    let last = last_return(c.depth, stack);
+    let start = start_of(change);
+    let count = count_of(change);
+    let wait = c.wait;
+    [
+        memory::high(c.i),
+        memory::low(c.i),
+        memory::high(c.pc),
+        memory::low(c.pc),
+        c.depth,
+        memory::high(last),
+        memory::low(last),
+        c.timers.delay,
+        c.timers.tone,
+        held_byte(wait),
+        memory::high(start),
+        memory::low(start),
+        memory::high(count),
+        memory::low(count),
+    ]
+}
+
+// ---- writing
+
+// The variables. They come by value, so that they can't lie where the record is written, and sixteen bytes are copied at once.
+fn lay_variables(place: &mut [u8], v: [u8; 16])
+    requires { ⌜ length (now place) ≡ placeSize ⌝ }
+    ensures { λ _. ⌜ now (place .exit) ≡ over (now (place .entry)) atV v 16 ⌝ }
+{
+    memory::lay(place, AT_V, &v);
+}
+
+// Fills a place. Zeros are laid first and the old bytes over them, so that the clearing has a fixed length. The variables come last:
+// to read sixteen bytes at once must wait for a byte among them that was just written.
+fn write(
+    place: &mut [u8],
+    c: Core,
+    v: &[u8; 16],
+    stack: &[u16; Machine::STACK],
+    change: Change,
+    old: &[u8],
+)
+    requires { ⌜ Writable (whole c (now v) (now stack)) change (now old) ⌝ }
+    requires { ⌜ length (now place) ≡ placeSize ⌝ }
+    ensures { λ _. ⌜ now (place .exit) ≡ recordWith (whole c (now (v .entry)) (now (stack .entry))) change (now (old .entry)) ⌝ }
+{
+    let mark = mark_of(change);
+    let fields = fields_of(c, stack, change);
+    memory::lay(place, AT_MARK, &mark);
+    memory::lay(place, AT_I, &fields);
+    memory::clear(place, AT_OLD);
+    memory::lay(place, AT_OLD, old);
+    lay_variables(place, *v);
+}
+
+// Writes the record of a machine and a change into the place `next` of a history. `old` are the bytes that are about to change.
+pub fn keep(
+    history: &mut [u8],
+    next: usize,
+    c: Core,
+    v: &[u8; 16],
+    stack: &[u16; Machine::STACK],
+    change: Change,
+    old: &[u8],
+)
+    requires { ⌜ Writable (whole c (now v) (now stack)) change (now old) ⌝ }
+    requires { ⌜ placeSize * next + placeSize ≤ length (now history) ⌝ }
+    ensures { λ _. ⌜ now (history .exit) ≡ over (now (history .entry)) (placeSize * next)
+        (recordWith (whole c (now (v .entry)) (now (stack .entry))) change (now (old .entry))) placeSize ⌝ }
+{
+    let at = PLACE * next;
+    write(&mut history[at..at + PLACE], c, v, stack, change, old);
+}

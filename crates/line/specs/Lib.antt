@@ -1,0 +1,2 @@
+-- The lines of a trace.
+pub mod Line
