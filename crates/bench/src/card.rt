@@ -200,11 +200,14 @@ fn with_trail(machine: Machine, line: Line) -> Answer {
     unrefused(machine, trail)
 }
 
+// A card after a line that is no call.
 pub fn changed(card: Answer, line: Line) -> Answer {
     let machine = card.machine;
     let trail = card.trail;
-    if line.letter == b'n' {
-        return with_trail(machine, line);
+    let letter = line.letter;
+    match letter {
+        b'#' => fresh(),
+        b'n' => with_trail(machine, line),
+        _ => unrefused(with_state(machine, line), trail),
     }
-    unrefused(with_state(machine, line), trail)
 }
