@@ -100,8 +100,7 @@ fn write_rest(m: Machine) {
 
 // Of as much of a buffer as was lent.
 fn write_sum(size: usize, buffer: &[u8]) {
-    let end = card::within(size, buffer);
-    write_word(b"", sum_of(&buffer[..end]));
+    write_word(b"", sum_of(card::first(buffer, size)));
 }
 
 fn write_sums(m: Machine, sizes: Sizes, memory: &[u8], picture: &[u8], history: &[u8]) {

@@ -47,8 +47,8 @@ fn play(
 
 // The call that the line names.
 fn made(
-    line: Line,
     card: Answer,
+    line: Line,
     memory: &mut [u8],
     picture: &mut [u8],
     history: &mut [u8],
@@ -56,13 +56,10 @@ fn made(
     keys: &[u16],
     randoms: &[u8],
 ) -> Answer {
-    let letter = line.letter;
-    match letter {
-        b'L' => walks::load(bytes, memory, picture, history),
-        b'R' => walks::run(card, memory, picture, history, bytes, keys, randoms),
-        b'Y' => play(card, memory, picture, history, bytes, keys, randoms),
-        _ => walks::walk(card, line, memory, picture, history),
+    if line.letter == b'Y' {
+        return play(card, memory, picture, history, bytes, keys, randoms);
     }
+    walks::made(card, line, memory, picture, history, bytes, keys, randoms)
 }
 
 // A call on as much of each buffer as is lent and as much of each list as the line says, and its line.
@@ -80,22 +77,16 @@ fn obey(
     if !line.is_call() {
         return card::changed(card, line);
     }
-    let a = card::within(sizes.memory, memory);
-    let b = card::within(sizes.picture, picture);
-    let c = card::within(sizes.history, history);
-    let d = card::within(line.size(1), bytes);
-    let e = card::within_words(line.size(2), keys);
-    let f = card::within(line.size(3), randoms);
     report::name(line.letter);
     let after = made(
-        line,
         card,
-        &mut memory[..a],
-        &mut picture[..b],
-        &mut history[..c],
-        &bytes[..d],
-        &keys[..e],
-        &randoms[..f],
+        line,
+        card::lent(memory, sizes.memory),
+        card::lent(picture, sizes.picture),
+        card::lent(history, sizes.history),
+        card::first(bytes, line.size(1)),
+        card::first_words(keys, line.size(2)),
+        card::first(randoms, line.size(3)),
     );
     report::answer(after, sizes, memory, picture, history);
     after

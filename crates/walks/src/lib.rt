@@ -6,7 +6,7 @@ use parts::Answer;
 
 // ---- the calls
 
-pub fn load(program: &[u8], memory: &mut [u8], picture: &mut [u8], history: &mut [u8]) -> Answer {
+fn load(program: &[u8], memory: &mut [u8], picture: &mut [u8], history: &mut [u8]) -> Answer {
     loading::load(program, memory, picture, history)
 }
 
@@ -44,7 +44,7 @@ fn back(card: Answer, memory: &mut [u8], picture: &mut [u8], history: &[u8]) -> 
 }
 
 // How many steps were accepted is written here.
-pub fn run(
+fn run(
     card: Answer,
     memory: &mut [u8],
     picture: &mut [u8],
@@ -172,7 +172,7 @@ fn write_accepted(letter: u8, count: usize) {
 }
 
 // As many actions as the line asks for, up to the first that is refused.
-pub fn walk(
+fn walk(
     card: Answer,
     line: Line,
     memory: &mut [u8],
@@ -193,4 +193,25 @@ pub fn walk(
     }
     write_accepted(line.letter, i);
     last
+}
+
+// ---- by the line's letter
+
+// A load, a run on lists, or a walk.
+pub fn made(
+    card: Answer,
+    line: Line,
+    memory: &mut [u8],
+    picture: &mut [u8],
+    history: &mut [u8],
+    bytes: &[u8],
+    keys: &[u16],
+    randoms: &[u8],
+) -> Answer {
+    let letter = line.letter;
+    match letter {
+        b'L' => load(bytes, memory, picture, history),
+        b'R' => run(card, memory, picture, history, bytes, keys, randoms),
+        _ => walk(card, line, memory, picture, history),
+    }
 }
