@@ -2,7 +2,7 @@
 ghost use Prim.Native.Nat.{_+_, _≤_, _<_};
 ghost use lib.ListN.{length};
 ghost use Rattle.io.specs.Counts.{Counts};
-use chip8::Ran;
+use parts::Ran;
 use text::line;
 
 // A line of 64 characters of up to three bytes, and its end.

@@ -2,14 +2,14 @@
 // its picture in block characters, two rows of spots to a line. The last line says why it stopped, and where.
 mod blocks;
 
-use chip8::Ran;
+use parts::Ran;
 use rules::Machine;
 
 // A program loaded and run. A refused load is a run of no step.
 fn run(program: &[u8], picture: &mut [u8]) -> Ran {
     let mut memory = [0u8; Machine::MEMORY];
     let mut history = [0u8; history::PLACE];
-    let start = chip8::load(program, &mut memory, picture, &mut history);
+    let start = loading::load(program, &mut memory, picture, &mut history);
     let outcome = start.outcome;
     let machine = start.machine;
     let trail = start.trail;
@@ -22,7 +22,7 @@ fn run(program: &[u8], picture: &mut [u8]) -> Ran {
             trail,
         };
     }
-    chip8::run(
+    running::run(
         machine,
         trail,
         &mut memory,

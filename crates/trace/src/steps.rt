@@ -50,7 +50,7 @@ fn put_steps(
     while n <= 64 {
         let pc = m.pc;
         let op = word_at(memory, pc);
-        let answer = chip8::step(m, t, memory, picture, history, 0, 0);
+        let answer = stepping::step(m, t, memory, picture, history, 0, 0);
         let outcome = answer.outcome;
         let refusal = text::number(outcome);
         if refusal != 0 {
@@ -74,7 +74,7 @@ pub fn put_trace(out: &mut [u8; 2048], program: &[u8]) -> usize
     let mut picture = [0u8; Machine::PICTURE];
     let mut history = [0u8; history::PLACE];
     let at = line::put_header(out, 0);
-    let start = chip8::load(program, &mut memory, &mut picture, &mut history);
+    let start = loading::load(program, &mut memory, &mut picture, &mut history);
     let machine = start.machine;
     let outcome = start.outcome;
     let refusal = text::number(outcome);
