@@ -54,7 +54,8 @@ pub fn fresh() -> Answer {
     unrefused(Machine::fresh(), Trail { next: 0, kept: 0 })
 }
 
-// How many bytes of a buffer are lent: as many as it has, at most.
+// ---- as much of a buffer as is asked for: as much as it has, at most
+
 pub fn within(size: usize, buffer: &[u8]) -> usize
     ensures { λ r. ⌜ Counts r (now (buffer .entry)) ⌝ }
 {
@@ -64,7 +65,7 @@ pub fn within(size: usize, buffer: &[u8]) -> usize
     buffer.len()
 }
 
-pub fn within_words(size: usize, buffer: &[u16]) -> usize
+fn within_words(size: usize, buffer: &[u16]) -> usize
     ensures { λ r. ⌜ Counts r (now (buffer .entry)) ⌝ }
 {
     if size < buffer.len() {
@@ -73,15 +74,30 @@ pub fn within_words(size: usize, buffer: &[u16]) -> usize
     buffer.len()
 }
 
+pub fn first(buffer: &[u8], size: usize) -> &[u8] {
+    let end = within(size, buffer);
+    &buffer[..end]
+}
+
+pub fn first_words(buffer: &[u16], size: usize) -> &[u16] {
+    let end = within_words(size, buffer);
+    &buffer[..end]
+}
+
+pub fn lent(buffer: &mut [u8], size: usize) -> &mut [u8] {
+    let end = within(size, buffer);
+    &mut buffer[..end]
+}
+
 // ---- bytes and words of the buffers; what lies outside stays
 
-fn set_byte(buffer: &mut [u8], at: usize, byte: u8) {
+pub fn set_byte(buffer: &mut [u8], at: usize, byte: u8) {
     if at < buffer.len() {
         buffer[at] = byte;
     }
 }
 
-fn set_word(buffer: &mut [u16], at: usize, word: u16) {
+pub fn set_word(buffer: &mut [u16], at: usize, word: u16) {
     if at < buffer.len() {
         buffer[at] = word;
     }
@@ -104,14 +120,6 @@ pub fn poke(buffer: &mut [u8], line: Line) {
         poke_one(buffer, at, line, k);
         k += 1;
     }
-}
-
-// An entry of the lists of a run or a play.
-pub fn set_entry(bytes: &mut [u8], keys: &mut [u16], randoms: &mut [u8], line: Line) {
-    let k = line.size(1);
-    set_byte(bytes, k, line.byte(2));
-    set_word(keys, k, line.word(3));
-    set_byte(randoms, k, line.byte(4));
 }
 
 // Zeros to the entries that a script may have set.
@@ -200,11 +208,14 @@ fn with_trail(machine: Machine, line: Line) -> Answer {
     unrefused(machine, trail)
 }
 
+// A card after a line that is no call.
 pub fn changed(card: Answer, line: Line) -> Answer {
     let machine = card.machine;
     let trail = card.trail;
-    if line.letter == b'n' {
-        return with_trail(machine, line);
+    let letter = line.letter;
+    match letter {
+        b'#' => fresh(),
+        b'n' => with_trail(machine, line),
+        _ => unrefused(with_state(machine, line), trail),
     }
-    unrefused(with_state(machine, line), trail)
 }

@@ -1,6 +1,9 @@
 // What the program writes.
+ghost use Prim.Native.Nat.{_<_};
+ghost use lib.ListN.{length};
 use crate::card;
 use crate::card::Sizes;
+use crate::script;
 use crate::script::Line;
 use parts::Answer;
 use rules::Machine;
@@ -49,18 +52,22 @@ fn sum_of_stack(m: Machine) -> u16 {
 
 // ---- a line, piece by piece
 
+fn write(text: &[u8]) {
+    io::write_all(1, text);
+}
+
 fn write_byte(name: &[u8], n: u8) {
-    io::write_all(1, name);
+    write(name);
     let mut digits = [0u8; 3];
     text::put_hex(&mut digits, 0, n);
-    io::write_all(1, &digits);
+    write(&digits);
 }
 
 fn write_word(name: &[u8], n: u16) {
-    io::write_all(1, name);
+    write(name);
     let mut digits = [0u8; 5];
     text::put_wide_hex(&mut digits, 0, n);
-    io::write_all(1, &digits);
+    write(&digits);
 }
 
 fn write_size(name: &[u8], n: usize) {
@@ -74,44 +81,54 @@ fn key_of(wait: Wait) -> u8 {
     }
 }
 
-fn write_machine(m: Machine) {
+fn write_registers(m: Machine) {
     let v = m.v;
-    let timers = m.timers;
-    let wait = m.wait;
     write_byte(b" v0", v[0]);
     write_byte(b" vf", v[15]);
     write_word(b" i", m.i);
     write_word(b" pc", m.pc);
+}
+
+fn write_rest(m: Machine) {
+    let timers = m.timers;
+    let wait = m.wait;
     write_byte(b" depth", m.depth);
     write_byte(b" key", key_of(wait));
     write_byte(b" timers", timers.delay);
     write_byte(b"", timers.tone);
 }
 
-// Of V, of the stack, and of as much of the buffers as was lent.
+// Of as much of a buffer as was lent.
+fn write_sum(size: usize, buffer: &[u8]) {
+    write_word(b"", sum_of(card::first(buffer, size)));
+}
+
 fn write_sums(m: Machine, sizes: Sizes, memory: &[u8], picture: &[u8], history: &[u8]) {
-    let a = card::within(sizes.memory, memory);
-    let b = card::within(sizes.picture, picture);
-    let c = card::within(sizes.history, history);
     write_word(b" sums", sum_of_registers(m));
     write_word(b"", sum_of_stack(m));
-    write_word(b"", sum_of(&memory[..a]));
-    write_word(b"", sum_of(&picture[..b]));
-    write_word(b"", sum_of(&history[..c]));
+    write_sum(sizes.memory, memory);
+    write_sum(sizes.picture, picture);
+    write_sum(sizes.history, history);
+}
+
+// The name of a call that makes many actions, or none.
+fn write_name(letter: u8) {
+    match letter {
+        b'L' => write(b"load"),
+        b'R' => write(b"run"),
+        b'Y' => write(b"play"),
+        b'F' => write(b"forward"),
+        _ => write(b"backward"),
+    }
 }
 
 pub fn name(letter: u8) {
     match letter {
-        b'T' => io::write_all(1, b"tick"),
-        b'B' => io::write_all(1, b"back"),
-        b'L' => io::write_all(1, b"load"),
-        b'R' => io::write_all(1, b"run"),
-        b'Y' => io::write_all(1, b"play"),
-        b'F' => io::write_all(1, b"forward"),
-        b'U' => io::write_all(1, b"backward"),
-        _ => io::write_all(1, b"step"),
+        b'S' | b'O' => write(b"step"),
+        b'T' => write(b"tick"),
+        b'B' => write(b"back"),
+        _ => write_name(letter),
     }
-    ;
 }
 
 // How many actions were accepted, of a call that makes many.
@@ -120,15 +137,15 @@ pub fn accepted(count: usize) {
 }
 
 fn write_refusal(outcome: Outcome) {
-    io::write_all(1, b" refusal ");
+    write(b" refusal ");
     io::print_decimal(1, text::number(outcome) as u64);
 }
 
 // What came of a panel, which hands back its outcome alone.
 pub fn panel(outcome: Outcome) {
-    io::write_all(1, b"panel");
+    write(b"panel");
     write_refusal(outcome);
-    io::write_all(1, b"\n");
+    write(b"\n");
 }
 
 // What a call handed back.
@@ -137,19 +154,32 @@ pub fn answer(card: Answer, sizes: Sizes, memory: &[u8], picture: &[u8], history
     let machine = card.machine;
     let trail = card.trail;
     write_refusal(outcome);
-    write_machine(machine);
+    write_registers(machine);
+    write_rest(machine);
     write_size(b" next", trail.next);
     write_size(b" kept", trail.kept);
     write_sums(machine, sizes, memory, picture, history);
-    io::write_all(1, b"\n");
+    write(b"\n");
 }
 
-// ---- what a line of the script asks to see
+// ---- the lines of the script, and what they ask to see
 
-// The heading of a case, as it stands.
-pub fn heading(line: &[u8]) {
-    io::write_all(1, line);
-    io::write_all(1, b"\n");
+fn write_line(line: &[u8]) {
+    write(line);
+    write(b"\n");
+}
+
+// The line that begins at an index. The heading of a case is written as it stands.
+pub fn next_line(text: &[u8], at: usize) -> Line
+    requires { ⌜ at < length (now text) ⌝ }
+    ensures { λ r. ⌜ at < r .next ⌝ }
+{
+    let line = script::read(text, at);
+    let end = line.end;
+    if line.letter == b'#' {
+        write_line(&text[at..end]);
+    }
+    line
 }
 
 // So many bytes of a buffer, from an index on.
@@ -161,5 +191,5 @@ pub fn show(name: &[u8], buffer: &[u8], line: Line) {
         write_byte(b"", buffer[i]);
         i += 1;
     }
-    io::write_all(1, b"\n");
+    write(b"\n");
 }

@@ -33,6 +33,14 @@ impl Line {
         let n = self.n;
         (n[k] % 1048576) as usize
     }
+
+    pub fn is_call(self) -> bool {
+        let letter = self.letter;
+        match letter {
+            b'S' | b'O' | b'T' | b'B' | b'L' | b'R' | b'Y' | b'F' | b'U' => true,
+            _ => false,
+        }
+    }
 }
 
 // The value of a hex digit, and 16 for any other character.

@@ -14,105 +14,41 @@
 //   F NNNN KKKK   U NNNN   so many actions forward, steps back
 //   G PPPP NNNN            the panel, with so many bytes of the picture and of the panel lent
 //   m g h k AAAA NN        shows bytes of memory, the picture, the history, the panel
-mod calls;
-
+use bench::buffers;
 use bench::card;
 use bench::card::Sizes;
 use bench::report;
-use bench::script;
 use bench::script::Line;
 use chip8::Answer;
 
-// ---- what a line does to the lists, to the buffers, and through the library
-
-fn set_lists(line: Line, bytes: &mut [u8], keys: &mut [u16], randoms: &mut [u8]) {
-    let letter = line.letter;
-    match letter {
-        b'#' => {
-            memory::clear(bytes, 0);
-            memory::clear(randoms, 0);
-            card::clear_keys(keys);
-        }
-        b'b' => card::poke(bytes, line),
-        b'e' => card::set_entry(bytes, keys, randoms, line),
-        _ => {}
-    }
-}
-
-// The heading of a case, which sets everything back.
-fn reset(heading: &[u8], memory: &mut [u8], picture: &mut [u8], history: &mut [u8]) -> Answer {
-    report::heading(heading);
-    memory::clear(memory, 0);
-    memory::clear(picture, 0);
-    memory::clear(history, 0);
-    card::fresh()
-}
-
-fn store(line: Line, memory: &mut [u8], picture: &mut [u8], history: &mut [u8]) {
-    let letter = line.letter;
-    match letter {
-        b'M' => card::poke(memory, line),
-        b'P' => card::poke(picture, line),
-        _ => card::poke(history, line),
-    }
-}
-
-fn show(line: Line, memory: &[u8], picture: &[u8], history: &[u8]) {
-    let letter = line.letter;
-    match letter {
-        b'm' => report::show(b"memory", memory, line),
-        b'g' => report::show(b"picture", picture, line),
-        _ => report::show(b"history", history, line),
-    }
-}
-
-// The panel of as many bytes of the picture as the line says, in as many of the panel.
-fn fill(line: Line, picture: &[u8], panel: &mut [u8]) {
-    let a = card::within(line.size(1), picture);
-    let b = card::within(line.size(2), panel);
-    report::panel(calls::panel(&picture[..a], &mut panel[..b]));
-}
-
-// What a line does to the panel, which no machine is lent.
-fn use_panel(line: Line, picture: &[u8], panel: &mut [u8]) {
-    let letter = line.letter;
-    match letter {
-        b'#' => memory::clear(panel, 0),
-        b'G' => fill(line, picture, panel),
-        b'k' => report::show(b"panel", panel, line),
-        _ => {}
-    }
-}
-
-// A call, and its line.
-fn call(
-    line: Line,
+// A play, made without what it promises, as the other calls are.
+fn play(
     card: Answer,
-    sizes: Sizes,
     memory: &mut [u8],
     picture: &mut [u8],
     history: &mut [u8],
+    moves: &[u8],
+    keys: &[u16],
+    randoms: &[u8],
 ) -> Answer {
-    let a = card::within(sizes.memory, memory);
-    let b = card::within(sizes.picture, picture);
-    let c = card::within(sizes.history, history);
-    report::name(line.letter);
-    let after = calls::made(
-        card,
-        line,
-        &mut memory[..a],
-        &mut picture[..b],
-        &mut history[..c],
-    );
-    report::answer(after, sizes, memory, picture, history);
-    after
+    let machine = card.machine;
+    let trail = card.trail;
+    chip8::play(
+        machine,
+        trail,
+        memory,
+        picture,
+        history,
+        moves,
+        keys,
+        randoms,
+    )
 }
 
-// The same of a load, a run and a play, on as much of each list as the line says.
-fn call_on_lists(
-    line: Line,
+// The call that the line names.
+fn made(
     card: Answer,
-    sizes: Sizes,
+    line: Line,
     memory: &mut [u8],
     picture: &mut [u8],
     history: &mut [u8],
@@ -120,29 +56,14 @@ fn call_on_lists(
     keys: &[u16],
     randoms: &[u8],
 ) -> Answer {
-    let a = card::within(sizes.memory, memory);
-    let b = card::within(sizes.picture, picture);
-    let c = card::within(sizes.history, history);
-    let d = card::within(line.size(1), bytes);
-    let e = card::within_words(line.size(2), keys);
-    let f = card::within(line.size(3), randoms);
-    report::name(line.letter);
-    let after = calls::made_on_lists(
-        card,
-        line,
-        &mut memory[..a],
-        &mut picture[..b],
-        &mut history[..c],
-        &bytes[..d],
-        &keys[..e],
-        &randoms[..f],
-    );
-    report::answer(after, sizes, memory, picture, history);
-    after
+    if line.letter == b'Y' {
+        return play(card, memory, picture, history, bytes, keys, randoms);
+    }
+    walks::made(card, line, memory, picture, history, bytes, keys, randoms)
 }
 
+// A call on as much of each buffer as is lent and as much of each list as the line says, and its line.
 fn obey(
-    text: &[u8],
     line: Line,
     card: Answer,
     sizes: Sizes,
@@ -153,38 +74,22 @@ fn obey(
     keys: &[u16],
     randoms: &[u8],
 ) -> Answer {
-    let letter = line.letter;
-    match letter {
-        b'#' => reset(text, memory, picture, history),
-        b'M' | b'P' | b'H' => {
-            store(line, memory, picture, history);
-            card
-        }
-        b'm' | b'g' | b'h' => {
-            show(line, memory, picture, history);
-            card
-        }
-        b'L' | b'R' | b'Y' => call_on_lists(
-            line,
-            card,
-            sizes,
-            memory,
-            picture,
-            history,
-            bytes,
-            keys,
-            randoms,
-        ),
-        b'S' | b'O' | b'T' | b'B' | b'F' | b'U' => call(
-            line,
-            card,
-            sizes,
-            memory,
-            picture,
-            history,
-        ),
-        _ => card::changed(card, line),
+    if !line.is_call() {
+        return card::changed(card, line);
     }
+    report::name(line.letter);
+    let after = made(
+        card,
+        line,
+        card::lent(memory, sizes.memory),
+        card::lent(picture, sizes.picture),
+        card::lent(history, sizes.history),
+        card::first(bytes, line.size(1)),
+        card::first_words(keys, line.size(2)),
+        card::first(randoms, line.size(3)),
+    );
+    report::answer(after, sizes, memory, picture, history);
+    after
 }
 
 // Every line of the script, on buffers of one byte more than the largest that fits.
@@ -202,13 +107,11 @@ fn obey_all(
     let mut sizes = Sizes::right();
     let mut at = 0;
     while at < text.len() {
-        let line = script::read(text, at);
-        let end = line.end;
+        let line = report::next_line(text, at);
         sizes = sizes.after(line);
-        set_lists(line, bytes, keys, randoms);
-        use_panel(line, picture, panel);
+        buffers::set_lists(line, bytes, keys, randoms);
+        buffers::use_buffers(line, memory, picture, history, panel);
         card = obey(
-            &text[at..end],
             line,
             card,
             sizes,

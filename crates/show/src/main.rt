@@ -2,7 +2,7 @@
 // its picture in block characters, two rows of spots to a line. The last line says why it stopped, and where.
 mod blocks;
 
-use chip8::Ran;
+use parts::Ran;
 use rules::Machine;
 
 // A program loaded and run. A refused load is a run of no step.

@@ -15,25 +15,27 @@ abbrev μ-loop : tie.MeasureT-loop
 
 loop-less : tie.Need-loop-less Inv-loop μ-loop
 loop-less c =
-    let read = c .before .before .before .before .before .before .before .before .before .before .before .before .before .before .before .before .before .before .before .before .before .before .before .before .before .before .before .before .before .before in
-    omega (arith, read .read .ensures .0, read .before .loop-test .taken)
+    let lists = c .before .before .before .before .before .before .before .before .before .before .before .before .before .before .before .before .before .before .before .before .before .before .before .before .before .before .before .before .before .before .before .before in
+    let line = lists .before .before .before .before .before in
+    omega (arith, line .next-line .ensures, line .before .loop-test .taken)
 
 loop-again : tie.Need-loop-again Inv-loop μ-loop
 loop-again c =
     let obey = c .before .before .before .before .before .before in
-    let panel = obey .before .before .before .before .before .before .before .before .before .before in
-    let lists = panel .before .before .before .before .before .before .before .before .before in
-    let k = obey .obey .kept .1 .1 .1 .1 in
+    let buffers = obey .before .before .before .before .before .before .before .before .before .before .before .before .before .before .before in
+    let lists = buffers .before .before .before .before .before .before .before .before .before .before .before in
+    let o = obey .obey .kept .1 .1 .1 in
+    let b = buffers .use-buffers .kept .1 in
     let l = lists .set-lists .kept .1 in
     let inv = lists .before .before .before .before .before .before .before .loop .inv in (
-      k .0 ∙ inv .0,
-      k .1 .0 ∙ inv .1,
-      k .1 .1 .0 ∙ inv .2,
+      o .0 ∙ b .0 ∙ inv .0,
+      o .1 .0 ∙ b .1 .0 ∙ inv .1,
+      o .1 .1 .0 ∙ b .1 .1 .0 ∙ inv .2,
       l .0 ∙ inv .3,
       l .1 .0 ∙ inv .4,
       l .1 .1 .0 ∙ inv .5,
-      panel .use-panel .kept .1 .1 .0 ∙ inv .6,
+      b .1 .1 .1 .0 ∙ inv .6,
     )
 
 pub obey-all-spec : {M : Type 1} → statement M
-obey-all-spec = tie.close (tie.spec Inv-loop μ-loop (λ c κs. search needs) (λ c κs. search needs) (λ c. search needs) (λ c κs. search needs) (λ c κs. search needs) (λ c κs. search needs) (λ c κs. search needs) (λ c. search needs) (λ c. search needs) (λ c. search needs) (λ c κs. search needs) loop-less loop-again (λ c. search needs) (λ c. search needs) (λ c. search needs) (λ c. search needs) (λ c. search needs) (λ c. search needs) (λ c. search needs) (λ c. search needs))
+obey-all-spec = tie.close (tie.spec Inv-loop μ-loop (λ c κs. search needs) (λ c κs. search needs) (λ c. search needs) (λ c κs. search needs) (λ c κs. search needs) (λ c κs. search needs) (λ c κs. search needs) (λ c κs. search needs) loop-less loop-again (λ c. search needs) (λ c. search needs) (λ c. search needs) (λ c. search needs) (λ c. search needs) (λ c. search needs) (λ c. search needs) (λ c. search needs))
