@@ -138,7 +138,7 @@ pub fn accepted(count: usize) {
 
 fn write_refusal(outcome: Outcome) {
     write(b" refusal ");
-    io::print_decimal(1, text::number(outcome) as u64);
+    io::print_decimal(1, parts::number(outcome) as u64);
 }
 
 // What came of a panel, which hands back its outcome alone.

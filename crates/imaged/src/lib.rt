@@ -16,7 +16,6 @@ ghost use Rattle.image.specs.Image.{imageSize, imageOf};
 ghost use Rattle.imaged.specs.Imaged.{worldOf, shown, whole, partly, Leaves};
 use parts::Answer;
 use rules::Outcome;
-use rules::Refusal;
 
 // What a step and a run tell besides the bytes: the refusal number or 0, the accepted steps, and the lit spots that they darkened.
 pub struct Told {
@@ -27,32 +26,11 @@ pub struct Told {
 
 // ---- numbers
 
-fn refusal_number(r: Refusal) -> u32
-    ensures { λ n. ⌜ n ≡ refusal.numberOf r ⌝ }
-{
-    match r {
-        Refusal::PcPastEnd => 1,
-        Refusal::Unlisted => 2,
-        Refusal::MachineCode => 3,
-        Refusal::StackFull => 4,
-        Refusal::StackEmpty => 5,
-        Refusal::MemoryPastEnd => 6,
-        Refusal::NothingKept => 7,
-        Refusal::ProgramLength => 8,
-        Refusal::BufferLength => 9,
-        Refusal::Unsound => 10,
-        Refusal::Damaged => 11,
-    }
-}
-
-// A call's number: 0 where it was done, and else that of its refusal.
+// The number of an outcome, as wide as C has it.
 pub fn number(o: Outcome) -> u32
     ensures { λ n. ⌜ n ≡ refusal.number o ⌝ }
 {
-    match o {
-        Outcome::Done => 0,
-        Outcome::Refused(r) => refusal_number(r),
-    }
+    parts::number(o) as u32
 }
 
 // How many steps a step's number tells of.

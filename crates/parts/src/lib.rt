@@ -1,11 +1,13 @@
 // The parts that are handed about. Of a machine: the variables and the stack are arrays that are lent, so that no step copies them; the
-// rest is small, and goes by value. And what a call answers beside the buffers that it is lent.
+// rest is small, and goes by value. And what a call answers beside the buffers that it is lent, with the number of its outcome.
 ghost use mathlib.Core.Path.{_≡_};
 ghost use mathlib.Core.List.{List};
 ghost use Prim.Native.Nat.{ℕ};
+ghost use Rattle.rules.specs.Refusal as refusal;
 ghost use Rattle.parts.specs.Whole as spec;
 use rules::Machine;
 use rules::Outcome;
+use rules::Refusal;
 use rules::Timers;
 use rules::Trail;
 use rules::Wait;
@@ -73,4 +75,35 @@ pub struct Ran {
     pub outcome: Outcome,
     pub machine: Machine,
     pub trail: Trail,
+}
+
+// ---- its number
+
+// The paper's number of a refusal.
+fn refusal_number(why: Refusal) -> u8
+    ensures { λ r. ⌜ r ≡ refusal.numberOf why ⌝ }
+{
+    match why {
+        Refusal::PcPastEnd => 1,
+        Refusal::Unlisted => 2,
+        Refusal::MachineCode => 3,
+        Refusal::StackFull => 4,
+        Refusal::StackEmpty => 5,
+        Refusal::MemoryPastEnd => 6,
+        Refusal::NothingKept => 7,
+        Refusal::ProgramLength => 8,
+        Refusal::BufferLength => 9,
+        Refusal::Unsound => 10,
+        Refusal::Damaged => 11,
+    }
+}
+
+// The same of an outcome: 0 where nothing was refused.
+pub fn number(outcome: Outcome) -> u8
+    ensures { λ r. ⌜ r ≡ refusal.number outcome ⌝ }
+{
+    match outcome {
+        Outcome::Done => 0,
+        Outcome::Refused(why) => refusal_number(why),
+    }
 }

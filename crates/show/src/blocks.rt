@@ -80,7 +80,7 @@ fn put_stop(out: &mut [u8; 17], ran: Ran) -> usize
 {
     let outcome = ran.outcome;
     let machine = ran.machine;
-    line::put_stop(out, 0, text::number(outcome), machine.pc)
+    line::put_stop(out, 0, parts::number(outcome), machine.pc)
 }
 
 // Why it stopped, and where.

@@ -13,7 +13,7 @@ fn run(program: &[u8], picture: &mut [u8]) -> Ran {
     let outcome = start.outcome;
     let machine = start.machine;
     let trail = start.trail;
-    if text::number(outcome) != 0 {
+    if parts::number(outcome) != 0 {
         return Ran {
             accepted: 0,
             dark: 0,

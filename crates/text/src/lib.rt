@@ -3,12 +3,9 @@ ghost use mathlib.Core.Path.{_≡_};
 ghost use mathlib.Core.List.{_∷_};
 ghost use Prim.Native.Nat.{_+_, _%_, _≤_, _<_};
 ghost use lib.ListN.{length, drop};
-ghost use Rattle.rules.specs.Refusal as refusal;
 ghost use Rattle.text.specs.Put.{Put};
 ghost use Rattle.text.specs.Text.{space, glyphOf, hexOf, wideHexOf, decimalOf};
 ghost use Rattle.text.specs.Digits.{threeDigits};
-use rules::Outcome;
-use rules::Refusal;
 
 // Bytes as they are.
 pub fn put(out: &mut [u8], at: usize, new: &[u8]) -> usize
@@ -85,33 +82,4 @@ pub fn put_decimal(out: &mut [u8], at: usize, n: u8) -> usize
     let digits = [glyph(n / 100), glyph(n / 10 % 10), glyph(n % 10)];
     let first = zeros_before(n);
     put(out, at, &digits[first..])
-}
-
-// The paper's number of a refusal.
-fn refusal_number(why: Refusal) -> u8
-    ensures { λ r. ⌜ r ≡ refusal.numberOf why ⌝ }
-{
-    match why {
-        Refusal::PcPastEnd => 1,
-        Refusal::Unlisted => 2,
-        Refusal::MachineCode => 3,
-        Refusal::StackFull => 4,
-        Refusal::StackEmpty => 5,
-        Refusal::MemoryPastEnd => 6,
-        Refusal::NothingKept => 7,
-        Refusal::ProgramLength => 8,
-        Refusal::BufferLength => 9,
-        Refusal::Unsound => 10,
-        Refusal::Damaged => 11,
-    }
-}
-
-// The same of an outcome: 0 where nothing was refused.
-pub fn number(outcome: Outcome) -> u8
-    ensures { λ r. ⌜ r ≡ refusal.number outcome ⌝ }
-{
-    match outcome {
-        Outcome::Done => 0,
-        Outcome::Refused(why) => refusal_number(why),
-    }
 }

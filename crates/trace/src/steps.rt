@@ -51,7 +51,7 @@ fn put_steps(
         let op = word_at(memory, pc);
         let answer = chip8::step(m, t, memory, picture, history, 0, 0);
         let outcome = answer.outcome;
-        let refusal = text::number(outcome);
+        let refusal = parts::number(outcome);
         if refusal != 0 {
             return line::put_stop(out, at, refusal, pc);
         }
@@ -76,7 +76,7 @@ pub fn put_trace(out: &mut [u8; 2048], program: &[u8]) -> usize
     let start = chip8::load(program, &mut memory, &mut picture, &mut history);
     let machine = start.machine;
     let outcome = start.outcome;
-    let refusal = text::number(outcome);
+    let refusal = parts::number(outcome);
     if refusal != 0 {
         return line::put_stop(out, at, refusal, machine.pc);
     }

@@ -160,7 +160,7 @@ fn action(
 
 fn is_refused(card: Answer) -> bool {
     let outcome = card.outcome;
-    text::number(outcome) != 0
+    parts::number(outcome) != 0
 }
 
 // A step, a tick or a step back that a line asks for by itself is no walk.

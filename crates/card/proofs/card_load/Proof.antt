@@ -1,5 +1,5 @@
 -- An image of the wrong length is refused; else the inner call.
-use borrow.Author.Needs.{needs}
+use native.Mathlib.Omega.{arith}
 use borrow.Author.Tests.{eq-eqb, ne-eqb}
 use Rattle.card.specs.Card.{cardLoad}
 use Rattle.card.proofs.Laws.{as-it-came}
@@ -15,4 +15,4 @@ unfolding cardLoad
 returns-2 c = rw (eq-eqb _ _ (c .before .before .before .before .before .before .before .before .before .before .before .before .before .if1 .left)) (c .before .before .before .before .before .before .before .before .load .ensures)
 
 pub card-load-spec : {M : Type 1} → statement M
-card-load-spec = tie.close (tie.spec returns (search needs) (search needs) (search needs) (search needs) (search needs) returns-2)
+card-load-spec = tie.close (tie.spec returns (λ c. omega arith) (λ c. omega arith) (λ c. omega arith) (λ c. omega arith) (λ c. omega arith) returns-2)

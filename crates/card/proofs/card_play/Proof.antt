@@ -1,5 +1,5 @@
 -- An image of the wrong length is refused; else the inner call.
-use borrow.Author.Needs.{needs}
+use native.Mathlib.Omega.{arith}
 use borrow.Author.Tests.{eq-eqb, ne-eqb}
 use Rattle.card.specs.Card.{cardPlay}
 use Rattle.card.proofs.Laws.{as-it-came}
@@ -15,4 +15,4 @@ unfolding cardPlay
 returns-2 c = rw (eq-eqb _ _ (c .before .before .before .before .before .before .before .before .before .before .before .before .before .if1 .left)) (c .before .before .before .before .before .before .before .before .play .ensures)
 
 pub card-play-spec : {M : Type 1} → statement M
-card-play-spec = tie.close (tie.spec returns (search needs) (search needs) (search needs) (search needs) (search needs) returns-2)
+card-play-spec = tie.close (tie.spec returns (λ c. omega arith) (λ c. omega arith) (λ c. omega arith) (λ c. omega arith) (λ c. omega arith) returns-2)

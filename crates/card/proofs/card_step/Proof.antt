@@ -1,4 +1,5 @@
 -- An image or an answer of the wrong length is refused; else the inner call, and its two numbers.
+use native.Mathlib.Omega.{arith}
 use mathlib.Core.Path.{refl}
 use borrow.Author.Needs.{needs}
 use borrow.Author.Tests.{eq-eqb, ne-eqb}
@@ -26,4 +27,4 @@ returns-3 c =
 
 pub card-step-spec : {M : Type 1} → statement M
 card-step-spec =
-    tie.close (tie.spec (search needs) (search needs) returns returns-2 (search needs) (search needs) (search needs) (search needs) (search needs) (search needs) (search needs) returns-3)
+    tie.close (tie.spec (search needs) (λ c. omega arith) returns returns-2 (search needs) (search needs) (λ c. omega arith) (λ c. omega arith) (λ c. omega arith) (λ c. omega arith) (λ c. omega arith) returns-3)

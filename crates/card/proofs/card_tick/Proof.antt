@@ -1,4 +1,5 @@
 -- An image of the wrong length is refused; else the inner call.
+use native.Mathlib.Omega.{arith}
 use borrow.Author.Needs.{needs}
 use borrow.Author.Tests.{eq-eqb, ne-eqb}
 use Rattle.card.specs.Card.{cardTick}
@@ -15,4 +16,4 @@ unfolding cardTick
 returns-2 c memory picture = rw (eq-eqb _ _ (c .before .before .before .before .before .before .before .if1 .left)) (c .before .before .before .before .tick .ensures memory picture)
 
 pub card-tick-spec : {M : Type 1} → statement M
-card-tick-spec = tie.close (tie.spec returns (search needs) (search needs) (search needs) returns-2)
+card-tick-spec = tie.close (tie.spec returns (search needs) (λ c. omega arith) (λ c. omega arith) returns-2)

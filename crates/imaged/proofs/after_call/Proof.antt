@@ -1,4 +1,5 @@
 -- Written where the number is 0, and else left.
+use native.Mathlib.Omega.{arith}
 use mathlib.Core.Path.{sym, _∙_}
 use borrow.Author.Tests.{eq-eqb, ne-eqb}
 use borrow.Author.Needs.{needs}
@@ -14,4 +15,4 @@ returns-2 : tie.Need-returns-2
 returns-2 c = let says = c .before .number .ensures in (says, rw (ne-eqb _ 0 (λ z. c .if1 .left (says ∙ z))))
 
 pub after-call-spec : {M : Type 1} → statement M
-after-call-spec = tie.close (tie.spec (search needs) (search needs) (search needs) returns returns-2)
+after-call-spec = tie.close (tie.spec (search needs) (search needs) (λ c. omega arith) returns returns-2)

@@ -1,4 +1,5 @@
 -- Written where the number is neither 9 nor 10, and else left.
+use native.Mathlib.Omega.{arith}
 use borrow.Author.Needs.{needs}
 use Rattle.imaged.proofs.after_list.Statement.{statement}
 use Rattle.imaged.proofs.after_list.Tie as tie
@@ -12,4 +13,4 @@ returns-2 : tie.Need-returns-2
 returns-2 c = let says = c .before .number .ensures in (says, rw (← says, c .if1 .left))
 
 pub after-list-spec : {M : Type 1} → statement M
-after-list-spec = tie.close (tie.spec (search needs) (search needs) (search needs) returns returns-2)
+after-list-spec = tie.close (tie.spec (search needs) (search needs) (λ c. omega arith) returns returns-2)

@@ -1,4 +1,5 @@
 -- The library's load, and the fresh image, refused or not.
+use native.Mathlib.Omega.{arith}
 use mathlib.Core.Bool.{true}
 use borrow.Author.Needs.{needs}
 use Rattle.imaged.proofs.Laws.{seen}
@@ -9,4 +10,4 @@ returns : tie.Need-returns
 returns c = seen (λ n. true) _ (c .before .before .before .before .before .before .before .before .before .before .before .before .before .before .before .before .before .before .before .before .before .before .args .image .now) _ _ _ _ _ _ _ _ (c .before .before .before .before .before .before .before .before .before .before .before .before .before .load .ensures) (c .number .ensures) (c .before .before .before .write .ensures)
 
 pub load-spec : {M : Type 1} → statement M
-load-spec = tie.close (tie.spec (search needs) (search needs) (search needs) (search needs) (search needs) (search needs) (search needs) returns)
+load-spec = tie.close (tie.spec (search needs) (search needs) (search needs) (λ c. omega arith) (λ c. omega arith) (λ c. omega arith) (λ c. omega arith) returns)

@@ -1,4 +1,5 @@
 -- The library's play of the world that the image stands for; the image is left only where the play itself is refused.
+use native.Mathlib.Omega.{arith}
 use mathlib.Core.Bool.{not, _||_}
 use lib.Dec.{eqb}
 use borrow.Author.Needs.{needs}
@@ -13,4 +14,4 @@ returns c =
     seen (λ n. not (eqb n 9 || eqb n 10)) _ (c .before .before .before .before .before .before .before .before .before .before .before .before .before .before .before .before .before .before .before .before .before .before .before .before .before .args .image .now) _ _ _ _ _ _ _ _ (rw (read .0, read .1) at (c .before .before .before .before .before .before .before .before .before .before .play .ensures .0)) (after .0) (after .1)
 
 pub play-spec : {M : Type 1} → statement M
-play-spec = tie.close (tie.spec (search needs) (search needs) (λ c κs. c .before .before .before .before .before .before .before .before .before .before .before .before .before .before .before .before .before .before .before .before .before .before .pre) (search needs) (search needs) (search needs) (search needs) returns)
+play-spec = tie.close (tie.spec (search needs) (search needs) (λ c κs. c .before .before .before .before .before .before .before .before .before .before .before .before .before .before .before .before .before .before .before .before .before .before .pre) (λ c. omega arith) (λ c. omega arith) (λ c. omega arith) (λ c. omega arith) returns)

@@ -1,4 +1,5 @@
 -- The library's run of the world that the image stands for; the image is left only where the run itself is refused.
+use native.Mathlib.Omega.{arith}
 use mathlib.Core.Bool.{not, _||_}
 use lib.Dec.{eqb}
 use borrow.Author.Needs.{needs}
@@ -16,4 +17,4 @@ returns c =
     )
 
 pub run-spec : {M : Type 1} → statement M
-run-spec = tie.close (tie.spec (search needs) (search needs) (λ c κs. c .before .before .before .before .before .before .before .before .before .before .before .before .before .before .before .before .before .before .before .before .before .before .before .before .pre) (search needs) (search needs) (search needs) (search needs) returns)
+run-spec = tie.close (tie.spec (search needs) (search needs) (λ c κs. c .before .before .before .before .before .before .before .before .before .before .before .before .before .before .before .before .before .before .before .before .before .before .before .before .pre) (λ c. omega arith) (λ c. omega arith) (λ c. omega arith) (λ c. omega arith) returns)

@@ -1,4 +1,5 @@
 -- The library's step of the world that the image stands for; the image is written where it is accepted.
+use native.Mathlib.Omega.{arith}
 use lib.Dec.{eqb}
 use borrow.Author.Needs.{needs}
 use Rattle.imaged.proofs.Laws.{seen}
@@ -15,4 +16,4 @@ returns c =
     )
 
 pub step-spec : {M : Type 1} → statement M
-step-spec = tie.close (tie.spec (search needs) (search needs) (search needs) (search needs) (search needs) (search needs) (search needs) (search needs) returns)
+step-spec = tie.close (tie.spec (search needs) (search needs) (search needs) (search needs) (λ c. omega arith) (λ c. omega arith) (λ c. omega arith) (λ c. omega arith) returns)

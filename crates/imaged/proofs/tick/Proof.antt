@@ -1,4 +1,5 @@
 -- The library's tick of the state that the image stands for; the image is written where it is accepted.
+use native.Mathlib.Omega.{arith}
 use lib.Dec.{eqb}
 use borrow.Author.Needs.{needs}
 use Rattle.imaged.proofs.Laws.{seen}
@@ -12,4 +13,4 @@ returns c memory picture =
     seen (λ n. eqb n 0) _ (c .before .before .before .before .before .before .before .before .before .before .before .before .before .before .args .image .now) _ _ _ _ _ _ _ _ (rw (read .0, read .1) at (c .before .before .before .before .before .tick .ensures memory picture)) (after .0) (after .1)
 
 pub tick-spec : {M : Type 1} → statement M
-tick-spec = tie.close (tie.spec (search needs) (search needs) (search needs) (search needs) (search needs) returns)
+tick-spec = tie.close (tie.spec (search needs) (search needs) (search needs) (λ c. omega arith) (λ c. omega arith) returns)
