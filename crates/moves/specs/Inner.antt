@@ -1,17 +1,12 @@
--- What the moves ask for: a trail in range, beside a history that has room.
+-- What a tick asks for: a trail in range, beside a history that has room.
 use mathlib.Core.List.{List}
-use Prim.Native.Nat.{ℕ, _≤_, _<_}
+use Prim.Native.Nat.{ℕ, _≤_}
 use lib.ListN.{length}
 use Rattle.rules.specs.declared.Machine.{Machine}
 use Rattle.rules.specs.declared.Trail.{Trail}
 use Rattle.rules.specs.State.{stackSize}
 use Rattle.rules.specs.World.{places}
-
--- next is below R and kept is at most R, which is at most 227
-pub record InRange (t : Trail) (r : ℕ) : Type 0 where
-  pub next : t .next < r
-  pub kept : t .kept ≤ r
-  pub few : r ≤ 227
+use Rattle.trail.specs.InRange.{InRange}
 
 -- a tick writes only the history
 pub record Tickable (m : Machine) (t : Trail) (his : List ℕ) : Type 0 where

@@ -1,10 +1,8 @@
 // A step and a tick of a world that passed the tests 9 and 10. A step is judged, then its record is kept, then it acts.
 ghost use mathlib.Core.Path.{_≡_};
 ghost use mathlib.Core.List.{List};
-ghost use Prim.Native.Nat.{ℕ, _+_, _≤_, _<_};
-ghost use lib.Dec.{eqb};
+ghost use Prim.Native.Nat.{ℕ, _≤_};
 ghost use lib.ListN.{length};
-ghost use Rattle.rules.specs.Number.{pick};
 ghost use Rattle.rules.specs.State.{memorySize, pictureSize};
 ghost use Rattle.rules.specs.Record as kept;
 ghost use Rattle.rules.specs.World.{world};
@@ -15,7 +13,7 @@ ghost use Rattle.rules.specs.Promise.{Gives};
 ghost use Rattle.rules.proofs.Ready.{Ready};
 ghost use Rattle.rules.proofs.Undo.{Fits};
 ghost use Rattle.parts.specs.Whole.{whole};
-ghost use Rattle.moves.specs.Inner.{InRange, Tickable};
+ghost use Rattle.moves.specs.Inner.{Tickable};
 use parts::Core;
 use rules::Change;
 use rules::Machine;
@@ -36,34 +34,6 @@ pub struct Stepped {
     pub core: Core,
     pub trail: Trail,
     pub dark: usize,
-}
-
-// ---- the trail
-
-// Next goes up by one, R becoming 0.
-fn next_place(next: usize, places: usize) -> usize
-    requires { ⌜ (next < places) × (places ≤ 227) ⌝ }
-    ensures { λ r. ⌜ r ≡ rule.nextPlace places next ⌝ }
-{
-    if next + 1 == places { 0 } else { next + 1 }
-}
-
-// Kept rises by one to at most R.
-fn one_more(kept: usize, places: usize) -> usize
-    requires { ⌜ (kept ≤ places) × (places ≤ 227) ⌝ }
-    ensures { λ r. ⌜ r ≡ pick (eqb kept places) places (kept + 1) ⌝ }
-{
-    if kept == places { places } else { kept + 1 }
-}
-
-fn grown(t: Trail, places: usize) -> Trail
-    requires { ⌜ InRange t places ⌝ }
-    ensures { λ r. ⌜ r ≡ rule.grown places t ⌝ }
-{
-    Trail {
-        next: next_place(t.next, places),
-        kept: one_more(t.kept, places),
-    }
 }
 
 // ---- the moves
@@ -146,7 +116,7 @@ pub fn step(
     Stepped {
         outcome: Outcome::Done,
         core,
-        trail: grown(trail, places),
+        trail: trail::grown(trail, places),
         dark: acted.dark,
     }
 }
@@ -173,6 +143,6 @@ pub fn tick(
     Moved {
         outcome: Outcome::Done,
         core: clock::tick(c),
-        trail: grown(trail, places),
+        trail: trail::grown(trail, places),
     }
 }

@@ -1,6 +1,5 @@
 // A step back: the last record is read, and what it holds is put back. Nothing is written before the record is known to be whole.
 ghost use mathlib.Core.Path.{_≡_};
-ghost use Prim.Native.Nat.{_<_};
 ghost use lib.ListN.{length};
 ghost use Rattle.rules.specs.World.{world, places};
 ghost use Rattle.rules.specs.Record.{placeSize, memoryAt, pictureAt};
@@ -14,14 +13,6 @@ use rules::Machine;
 use rules::Outcome;
 use rules::Refusal;
 use rules::Trail;
-
-// Next falls by one, 0 becoming R - 1.
-fn place_before(next: usize, places: usize) -> usize
-    requires { ⌜ next < places ⌝ }
-    ensures { λ r. ⌜ (r ≡ rule.placeBefore places next) × (r < places) ⌝ }
-{
-    if next == 0 { places - 1 } else { next - 1 }
-}
 
 // Puts the old bytes of a record back where they stood.
 fn put_back(change: Change, place: &[u8], memory: &mut [u8], picture: &mut [u8])
@@ -62,7 +53,7 @@ fn undo(
             trail,
         };
     }
-    let last = place_before(trail.next, judge::places(history));
+    let last = trail::place_before(trail.next, judge::places(history));
     let at = history::PLACE * last;
     let end = at + history::PLACE;
     let old = history::read(&history[at..end], machine);

@@ -14,7 +14,8 @@ use Rattle.rules.specs.Run.{tickedBy, unrefused}
 use Rattle.rules.specs.Promise.{Gives}
 use Rattle.rules.proofs.Choices.{by-test}
 use Rattle.rules.proofs.Ready.{next-below}
-use Rattle.moves.specs.Inner.{InRange, Tickable}
+use Rattle.trail.specs.InRange.{InRange}
+use Rattle.moves.specs.Inner.{Tickable}
 
 -- the world that a call gives
 pub gives-world : (a : Answer) (o : Outcome) (m : Machine) (t : Trail) (mem pic his : List ℕ) → Gives a o m t mem pic his

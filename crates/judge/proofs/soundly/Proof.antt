@@ -23,4 +23,4 @@ typed c =
     }
 
 pub soundly-spec : {M : Type 1} → statement M
-soundly-spec = tie.close (tie.spec (search needs) (search needs) (λ c. (cc, typed (c .before .before .before))))
+soundly-spec = tie.close (tie.spec (λ c κs. tt) (λ c κs. tt) (λ c. (cc, typed (c .before .before .before))))

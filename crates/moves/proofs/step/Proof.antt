@@ -69,4 +69,4 @@ returns-3 c =
     )
 
 pub step-spec : {M : Type 1} → statement M
-step-spec = tie.close (tie.spec (search needs) (search needs) returns (search needs) (search needs) (search needs) (search needs) (search needs) (search needs) (search needs) returns-2 (search needs) (search needs) old-of-requires keep-requires act-requires grown-requires (search needs) (search needs) (search needs) returns-3)
+step-spec = tie.close (tie.spec (search needs) (search needs) returns (search needs) (search needs) (search needs) (search needs) (search needs) (search needs) (search needs) returns-2 (search needs) (search needs) old-of-requires keep-requires act-requires grown-requires (λ c. omega arith) (λ c. omega arith) (λ c. omega arith) returns-3)

@@ -1,4 +1,5 @@
 -- A tick's record keeps no bytes, so it is the same beside any memory and picture.
+use native.Mathlib.Omega.{arith}
 use mathlib.Core.Path.{refl}
 use borrow.Author.Needs.{needs}
 use Rattle.rules.specs.Call.{ticked}
@@ -18,4 +19,4 @@ returns c memory picture =
     }
 
 pub tick-spec : {M : Type 1} → statement M
-tick-spec = tie.close (tie.spec (search needs) (search needs) (search needs) (search needs) (search needs) (search needs) returns)
+tick-spec = tie.close (tie.spec (search needs) (search needs) (search needs) (search needs) (search needs) (λ c. omega arith) returns)

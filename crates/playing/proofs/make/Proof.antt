@@ -1,5 +1,5 @@
 -- Each arm is the promise of its call.
-use borrow.Author.Needs.{needs}
+use native.Mathlib.Omega.{arith}
 use borrow.Author.Tests.{ne-eqb}
 use Rattle.playing.proofs.make.Statement.{statement}
 use Rattle.playing.proofs.make.Tie as tie
@@ -16,4 +16,4 @@ returns-3 c =
     simp (ne-eqb _ _ (rest .1), ne-eqb _ _ (rest .0 .1)) (c .before .before .before .before .back .ensures)
 
 pub make-spec : {M : Type 1} → statement M
-make-spec = tie.close (tie.spec (search needs) (search needs) (search needs) (search needs) (search needs) (search needs) returns (search needs) returns-2 (search needs) (search needs) (search needs) returns-3)
+make-spec = tie.close (tie.spec (λ c κs. tt) (λ c κs. tt) (λ c κs. tt) (λ c. omega arith) (λ c. omega arith) (λ c. omega arith) returns (λ c. omega arith) returns-2 (λ c. omega arith) (λ c. omega arith) (λ c. omega arith) returns-3)

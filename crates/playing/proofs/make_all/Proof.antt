@@ -34,6 +34,6 @@ pub make-all-spec : {M : Type 1} → statement M
 make-all-spec =
     tie.close
     (tie.spec Inv-loop μ-loop loop-holds (λ c. omega arith) (λ c. omega arith) (λ c. omega (arith, c .before .before .before .before .before .before .before .before .loop .inv .3 .lists .keys))
-    (λ c. omega (arith, c .before .before .before .before .before .before .before .before .before .loop .inv .3 .lists .randoms)) (search needs) (λ c. omega (arith, c .before .before .before .before .before .before .before .before .before .before .before .before .before .before .before .before .loop .inv .3 .lists .few)) (λ c. omega arith)
+    (λ c. omega (arith, c .before .before .before .before .before .before .before .before .before .loop .inv .3 .lists .randoms)) (λ c κs. tt) (λ c. omega (arith, c .before .before .before .before .before .before .before .before .before .before .before .before .before .before .before .before .loop .inv .3 .lists .few)) (λ c. omega arith)
     loop-again (λ c. c .before .loop .inv .0) (λ c. c .before .loop .inv .1) (λ c. c .before .loop .inv .2)
     (λ c. played _ _ _ _ _ _ _ _ _ _ _ (c .before .loop .inv .3) (c .loop-test .left)))

@@ -1,4 +1,5 @@
 -- Refused by the tests 9 or 10, which a sound start passes, or played from a world that is ready: then the theorem of the rules tells of it.
+use native.Mathlib.Omega.{arith}
 use mathlib.Core.Path.{_≡_, sym, ap, _∙_}
 use mathlib.Core.Bool.{_&&_, and-eq-true-iff}
 use borrow.Author.Needs.{needs}
@@ -49,4 +50,4 @@ returns-2 c =
 
 pub play-spec : {M : Type 1} → statement M
 play-spec =
-    tie.close (tie.spec (search needs) (search needs) (search needs) (search needs) (search needs) (search needs) (search needs) (search needs) returns make-all-requires (search needs) (search needs) (search needs) returns-2)
+    tie.close (tie.spec (λ c κs. tt) (λ c κs. tt) (λ c κs. tt) (search needs) (search needs) (λ c. omega arith) (λ c. omega arith) (λ c. omega arith) returns make-all-requires (λ c. omega arith) (λ c. omega arith) (λ c. omega arith) returns-2)

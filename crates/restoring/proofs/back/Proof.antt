@@ -1,4 +1,5 @@
 -- Refused by the tests 9 or 10, or the step back of a world that is ready.
+use native.Mathlib.Omega.{arith}
 use borrow.Author.Needs.{needs}
 use Rattle.rules.specs.World.{world}
 use Rattle.restoring.proofs.Undone.{back-refused}
@@ -15,5 +16,5 @@ returns c =
 pub back-spec : {M : Type 1} → statement M
 back-spec =
     tie.close
-    (tie.spec (search needs) (search needs) (search needs) (search needs) (search needs) returns
-    (λ c κs. c .before .before .before .before .admitted .ensures .1 (c .before .before .enum-told .given .1)) (search needs) (search needs) (λ c. c .before .before .before .before .undo .ensures))
+    (tie.spec (search needs) (search needs) (search needs) (λ c. omega arith) (λ c. omega arith) returns
+    (λ c κs. c .before .before .before .before .admitted .ensures .1 (c .before .before .enum-told .given .1)) (λ c. omega arith) (λ c. omega arith) (λ c. c .before .before .before .before .undo .ensures))

@@ -47,4 +47,4 @@ returns-3 c =
 
 pub put-back-spec : {M : Type 1} → statement M
 put-back-spec =
-    tie.close (tie.spec (search needs) (search needs) (search needs) (search needs) (search needs) (search needs) (search needs) part-lay-end lay-requires (search needs) (search needs) (search needs) (search needs) (search needs) (search needs) part-lay-end-2 lay-requires-2 returns (search needs) returns-2 (search needs) returns-3)
+    tie.close (tie.spec (search needs) (search needs) (search needs) (search needs) (search needs) (search needs) (search needs) part-lay-end lay-requires (search needs) (search needs) (search needs) (search needs) (search needs) (search needs) part-lay-end-2 lay-requires-2 returns (λ c. omega arith) returns-2 (λ c. omega arith) returns-3)

@@ -66,4 +66,4 @@ returns-3 c =
 
 pub undo-spec : {M : Type 1} → statement M
 undo-spec =
-    tie.close (tie.spec returns (search needs) (search needs) mul-at add-end (search needs) (search needs) part-read-end (search needs) returns-2 (search needs) (search needs) part-put-back-end put-back-requires (search needs) (search needs) (search needs) returns-3)
+    tie.close (tie.spec returns (search needs) (search needs) mul-at add-end (search needs) (search needs) part-read-end (search needs) returns-2 (search needs) (search needs) part-put-back-end put-back-requires (search needs) (λ c. omega arith) (λ c. omega arith) returns-3)

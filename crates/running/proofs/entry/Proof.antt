@@ -1,5 +1,5 @@
 -- The ticks lead to a world that is ready, and the step is made there.
-use borrow.Author.Needs.{needs}
+use native.Mathlib.Omega.{arith}
 use Rattle.rules.specs.World.{World, world}
 use Rattle.rules.proofs.Ready.{ticks-ready}
 use Rattle.parts.specs.Whole.{whole}
@@ -30,4 +30,4 @@ returns c =
     (rw there at (stepped .0), (rw there at (stepped .1 .0), stepped .1 .1))
 
 pub entry-spec : {M : Type 1} → statement M
-entry-spec = tie.close (tie.spec ticks-of-requires step-requires (search needs) (search needs) (search needs) returns)
+entry-spec = tie.close (tie.spec ticks-of-requires step-requires (λ c. omega arith) (λ c. omega arith) (λ c. omega arith) returns)

@@ -45,4 +45,4 @@ returns-2 c =
 
 pub run-spec : {M : Type 1} → statement M
 run-spec =
-    tie.close (tie.spec (search needs) (search needs) (search needs) (search needs) (search needs) (search needs) (search needs) returns run-ready-requires (search needs) (search needs) (search needs) returns-2)
+    tie.close (tie.spec (λ c κs. tt) (λ c κs. tt) (search needs) (search needs) (λ c. omega arith) (λ c. omega arith) (λ c. omega arith) returns run-ready-requires (λ c. omega arith) (λ c. omega arith) (λ c. omega arith) returns-2)

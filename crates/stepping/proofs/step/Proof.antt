@@ -18,4 +18,4 @@ returns c =
     )
 
 pub step-spec : {M : Type 1} → statement M
-step-spec = tie.close (tie.spec (search needs) (search needs) (search needs) (search needs) (search needs) (search needs) (search needs) returns)
+step-spec = tie.close (tie.spec (search needs) (search needs) (search needs) (λ c κs. tt) (λ c. omega arith) (λ c. omega arith) (λ c. omega arith) returns)

@@ -1,4 +1,5 @@
 -- Refused by the tests 9 or 10, or the tick of a state and a history that passed them.
+use native.Mathlib.Omega.{arith}
 use mathlib.Core.Path.{_≡_}
 use borrow.Author.Needs.{needs}
 use Rattle.rules.specs.World.{world}
@@ -25,4 +26,4 @@ returns-2 c memory picture =
     (rw (c .before .before .before .before .before .before .before .before .before .core-of .ensures) at (c .before .before .before .before .before .tick .ensures memory picture))
 
 pub tick-spec : {M : Type 1} → statement M
-tick-spec = tie.close (tie.spec (search needs) (search needs) (search needs) (search needs) (search needs) (search needs) returns (search needs) tick-requires (search needs) (search needs) returns-2)
+tick-spec = tie.close (tie.spec (λ c κs. tt) (λ c κs. tt) (λ c κs. tt) (search needs) (search needs) (λ c. omega arith) returns (λ c κs. tt) tick-requires (λ c κs. tt) (λ c. omega arith) returns-2)

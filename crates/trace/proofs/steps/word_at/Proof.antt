@@ -9,4 +9,4 @@ returns c = cc (c .before .byte-at .ensures .0, c .byte-at2 .ensures .0)
 pub word-at-spec : {M : Type 1} → statement M
 word-at-spec =
     tie.close
-    (tie.spec (search needs) (search needs) (search needs) (search needs) (search needs) returns)
+    (tie.spec (λ c κs. tt) (search needs) (search needs) (λ c κs. tt) (search needs) returns)

@@ -1,8 +1,8 @@
 -- Each way out has the test that led there.
 use borrow.Author.Needs.{needs}
 use borrow.Author.Tests.{eq-eqb, ne-eqb}
-use Rattle.moves.proofs.next_place.Statement.{statement}
-use Rattle.moves.proofs.next_place.Tie as tie
+use Rattle.trail.proofs.next_place.Statement.{statement}
+use Rattle.trail.proofs.next_place.Tie as tie
 
 pub next-place-spec : {M : Type 1} → statement M
 next-place-spec =

@@ -1,7 +1,7 @@
 -- Each of the two numbers is its callee's.
 use borrow.Author.Needs.{needs}
-use Rattle.moves.proofs.grown.Statement.{statement}
-use Rattle.moves.proofs.grown.Tie as tie
+use Rattle.trail.proofs.grown.Statement.{statement}
+use Rattle.trail.proofs.grown.Tie as tie
 
 pub grown-spec : {M : Type 1} → statement M
 grown-spec = tie.close (tie.spec (search needs) (search needs) (λ c. cc))

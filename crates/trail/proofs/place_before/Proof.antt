@@ -2,8 +2,8 @@
 use native.Mathlib.Omega.{arith}
 use borrow.Author.Needs.{needs}
 use borrow.Author.Tests.{eq-eqb, ne-eqb}
-use Rattle.restoring.proofs.place_before.Statement.{statement}
-use Rattle.restoring.proofs.place_before.Tie as tie
+use Rattle.trail.proofs.place_before.Statement.{statement}
+use Rattle.trail.proofs.place_before.Tie as tie
 
 pub place-before-spec : {M : Type 1} → statement M
 place-before-spec =

@@ -1,0 +1,2 @@
+-- What the two numbers must be before they are counted on.
+pub mod InRange
