@@ -21,47 +21,6 @@ use bench::report;
 use bench::script::Line;
 use chip8::Answer;
 
-// A play, made without what it promises, as the other calls are.
-fn play(
-    card: Answer,
-    memory: &mut [u8],
-    picture: &mut [u8],
-    history: &mut [u8],
-    moves: &[u8],
-    keys: &[u16],
-    randoms: &[u8],
-) -> Answer {
-    let machine = card.machine;
-    let trail = card.trail;
-    chip8::play(
-        machine,
-        trail,
-        memory,
-        picture,
-        history,
-        moves,
-        keys,
-        randoms,
-    )
-}
-
-// The call that the line names.
-fn made(
-    card: Answer,
-    line: Line,
-    memory: &mut [u8],
-    picture: &mut [u8],
-    history: &mut [u8],
-    bytes: &[u8],
-    keys: &[u16],
-    randoms: &[u8],
-) -> Answer {
-    if line.letter == b'Y' {
-        return play(card, memory, picture, history, bytes, keys, randoms);
-    }
-    walks::made(card, line, memory, picture, history, bytes, keys, randoms)
-}
-
 // A call on as much of each buffer as is lent and as much of each list as the line says, and its line.
 fn obey(
     line: Line,
@@ -78,7 +37,7 @@ fn obey(
         return card::changed(card, line);
     }
     report::name(line.letter);
-    let after = made(
+    let after = walks::made(
         card,
         line,
         card::lent(memory, sizes.memory),

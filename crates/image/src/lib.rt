@@ -6,7 +6,6 @@ ghost use lib.ListN.{drop, length};
 ghost use Rattle.rules.specs.Number.{pick, word};
 ghost use Rattle.rules.specs.State.{zeros};
 ghost use Rattle.rules.specs.Memory.{part};
-ghost use Rattle.rules.specs.Record.{heldByte};
 ghost use Rattle.image.specs.Image.{imageSize, middle, sixFrom, numbers, imageOf, waitOf, stackOf, machineOf, trailOf};
 ghost use Rattle.image.specs.Laid.{Stands};
 use rules::Machine;
@@ -129,15 +128,6 @@ pub fn read(image: &[u8]) -> Standing
 
 // ---- writing
 
-fn held_byte(w: Wait) -> u8
-    ensures { λ r. ⌜ r ≡ heldByte w ⌝ }
-{
-    match w {
-        Wait::Idle => 0xFF,
-        Wait::Held(k) => k,
-    }
-}
-
 fn middle_of(m: Machine) -> [u8; 8]
     ensures { λ r. ⌜ r ≡ middle m ⌝ }
 {
@@ -150,7 +140,7 @@ fn middle_of(m: Machine) -> [u8; 8]
         m.depth,
         m.timers.delay,
         m.timers.tone,
-        held_byte(wait),
+        parts::held_byte(wait),
     ]
 }
 

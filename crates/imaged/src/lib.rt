@@ -34,10 +34,10 @@ pub fn number(o: Outcome) -> u32
 }
 
 // How many steps a step's number tells of.
-fn accepted_by(n: u32) -> u64
-    ensures { λ r. ⌜ r ≡ pick (eqb n 0) 1 0 ⌝ }
+fn accepted_by(told: u32) -> u64
+    ensures { λ r. ⌜ r ≡ pick (eqb told 0) 1 0 ⌝ }
 {
-    if n == 0 { 1 } else { 0 }
+    if told == 0 { 1 } else { 0 }
 }
 
 // ---- the image after a call

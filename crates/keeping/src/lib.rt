@@ -8,12 +8,11 @@ ghost use Rattle.keeping.specs.Writable.{Writable};
 ghost use Rattle.rules.specs.Number.{pick};
 ghost use Rattle.rules.specs.Memory.{over};
 ghost use Rattle.rules.specs.State.{stackSize};
-ghost use Rattle.rules.specs.Record.{placeSize, atV, mark, start, count, heldByte, fields, recordWith};
+ghost use Rattle.rules.specs.Record.{placeSize, atV, mark, start, count, fields, recordWith};
 ghost use Rattle.parts.specs.Whole.{whole};
 use parts::Core;
 use rules::Change;
 use rules::Machine;
-use rules::Wait;
 
 // How many bytes a place has, and where each part of its record begins.
 pub const PLACE: usize = 288;
@@ -83,15 +82,6 @@ fn last_return(depth: u8, stack: &[u16; Machine::STACK]) -> u16
     if above == 0 { 0 } else { stack[above - 1] }
 }
 
-fn held_byte(w: Wait) -> u8
-    ensures { λ r. ⌜ r ≡ heldByte w ⌝ }
-{
-    match w {
-        Wait::Idle => 0xFF,
-        Wait::Held(k) => k,
-    }
-}
-
 // What lies between the registers and the old bytes.
 fn fields_of(c: Core, stack: &[u16; Machine::STACK], change: Change) -> [u8; 14]
     requires { ⌜ c .depth ≤ stackSize ⌝ }
@@ -111,7 +101,7 @@ fn fields_of(c: Core, stack: &[u16; Machine::STACK], change: Change) -> [u8; 14]
         memory::low(last),
         c.timers.delay,
         c.timers.tone,
-        held_byte(wait),
+        parts::held_byte(wait),
         memory::high(start),
         memory::low(start),
         memory::high(count),

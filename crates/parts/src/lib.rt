@@ -3,6 +3,7 @@
 ghost use mathlib.Core.Path.{_≡_};
 ghost use mathlib.Core.List.{List};
 ghost use Prim.Native.Nat.{ℕ};
+ghost use Rattle.rules.specs.Record.{heldByte};
 ghost use Rattle.rules.specs.Refusal as refusal;
 ghost use Rattle.parts.specs.Whole as spec;
 use rules::Machine;
@@ -48,6 +49,16 @@ pub fn whole(c: Core, v: [u8; 16], stack: [u16; Machine::STACK]) -> Machine
         depth: c.depth,
         timers,
         wait,
+    }
+}
+
+// The wait as one byte, in a record and in an image: the key that is held, and FF for none.
+pub fn held_byte(w: Wait) -> u8
+    ensures { λ r. ⌜ r ≡ heldByte w ⌝ }
+{
+    match w {
+        Wait::Idle => 0xFF,
+        Wait::Held(k) => k,
     }
 }
 

@@ -1,5 +1,4 @@
-// The calls of a card, and walks of many. They are made without what they promise, since here it is only written what came of them. Each
-// is named by the crate in which it is proved.
+// The calls of a card, and walks of many. They are made without what they promise, since here it is only written what came of them.
 use bench::report;
 use bench::script::Line;
 use parts::Answer;
@@ -74,6 +73,29 @@ fn run(
         machine,
         trail,
     }
+}
+
+fn play(
+    card: Answer,
+    memory: &mut [u8],
+    picture: &mut [u8],
+    history: &mut [u8],
+    moves: &[u8],
+    keys: &[u16],
+    randoms: &[u8],
+) -> Answer {
+    let machine = card.machine;
+    let trail = card.trail;
+    chip8::play(
+        machine,
+        trail,
+        memory,
+        picture,
+        history,
+        moves,
+        keys,
+        randoms,
+    )
 }
 
 // ---- a step on an instruction of the script's
@@ -197,7 +219,7 @@ fn walk(
 
 // ---- by the line's letter
 
-// A load, a run on lists, or a walk.
+// A load, a run or a play on lists, or a walk.
 pub fn made(
     card: Answer,
     line: Line,
@@ -212,6 +234,7 @@ pub fn made(
     match letter {
         b'L' => load(bytes, memory, picture, history),
         b'R' => run(card, memory, picture, history, bytes, keys, randoms),
+        b'Y' => play(card, memory, picture, history, bytes, keys, randoms),
         _ => walk(card, line, memory, picture, history),
     }
 }
