@@ -7,7 +7,7 @@ use Rattle.judge.proofs.judged.Tie as tie
 
 returns : tie.Need-returns
 unfolding refusalOf
-returns c v stack = rw (c .before .before .enum-told3 .given .1, lt-ltb _ _ (c .if1 .taken))
+returns c v stack = rw (c .before .before .enum-told3 .given .1, lt-ltb _ 12 (c .if1 .taken))
 
 returns-2 : tie.Need-returns-2
 unfolding refusalOf
@@ -23,7 +23,7 @@ returns-4 c v stack = rw (c .enum-told2 .given .1)
 
 returns-5 : tie.Need-returns-5
 unfolding refusalOf
-returns-5 c v stack = rw (c .before .before .enum-told3 .given .1, le-ltb _ _ (c .if1 .left))
+returns-5 c v stack = rw (c .before .before .enum-told3 .given .1, le-ltb _ 12 (c .if1 .left))
 
 returns-6 : tie.Need-returns-6
 unfolding refusalOf
