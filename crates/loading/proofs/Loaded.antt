@@ -7,6 +7,7 @@ use lib.ListN.{length, take, drop, replicate, length-append, length-replicate, r
 use lib.Seq.{take-at, drop-append-add}
 use lib.Dec.{leb}
 use borrow.Author.Tests.{leb-true}
+use Rattle.rules.specs.declared.Edition.{Edition}
 use Rattle.rules.specs.declared.Refusal.{Refusal}
 use Rattle.rules.specs.declared.Outcome.the-variants.{Done, Refused}
 use Rattle.rules.specs.Refusal.{number}
@@ -51,15 +52,15 @@ laid-out program memory₀ memory₁ memory₂ memory₃ size laid clear last =
 
 -- ---- the call
 
-module _ (program memory picture history : List ℕ) where
+module _ (edition : Edition) (program memory picture history : List ℕ) where
   pub load-refused : (r : Refusal) → number (Refused r) ≡ loadRefusal program memory picture history
-      → Gives (load program memory picture history) (Refused r) fresh freshTrail memory picture history
+      → Gives (load edition program memory picture history) (Refused r) (fresh edition) freshTrail memory picture history
   unfolding load
   load-refused r e =
-      given-refused (loadRefusal program memory picture history) (loaded program history) (freshWorld memory picture history) r e
+      given-refused (loadRefusal program memory picture history) (loaded edition program history) (freshWorld edition memory picture history) r e
 
   pub record Room : Type 0 where
-    pub sizes : Passed (freshWorld memory picture history)
+    pub sizes : Passed (freshWorld edition memory picture history)
     pub short : length program ≤ 3584
 
   pub load-room : loadRefusal program memory picture history ≡ 0 → Room
@@ -68,14 +69,14 @@ module _ (program memory picture history : List ℕ) where
       let first = passed (sizesFit memory picture history) 8 _ e in
       let second = passed (leb 1 (length program) && leb (length program) 3584) 7 0 (first .1) in
       record {
-        sizes = fits-passed (freshWorld memory picture history) (first .0);
+        sizes = fits-passed (freshWorld edition memory picture history) (first .0);
         short = leb-true _ _ (and-eq-true-iff (leb 1 (length program)) (leb (length program) 3584) .0 (second .0) .1);
       }
 
   pub load-gives : loadRefusal program memory picture history ≡ 0 → (mem pic his : List ℕ) → mem ≡ loadedMemory program
       → pic ≡ replicate (length picture) 0 → his ≡ replicate (length history) 0
-      → Gives (load program memory picture history) Done fresh freshTrail mem pic his
+      → Gives (load edition program memory picture history) Done (fresh edition) freshTrail mem pic his
   unfolding load
   load-gives e mem pic his em ep eh =
-      rw (answered-done (loadRefusal program memory picture history) (loaded program history) (freshWorld memory picture history) e)
+      rw (answered-done (loadRefusal program memory picture history) (loaded edition program history) (freshWorld edition memory picture history) e)
       (record { says = refl; machine = refl; trail = refl; memory = em; picture = rw ((load-room e) .sizes .picture) at ep; history = eh })

@@ -142,7 +142,7 @@ module _ (w : World) (h : Ready w) where
       byte a = below-get (omega arith) (h .good .memory .below) a
 
       fits : OpFits (opAt (boardOf w))
-      fits = decode-fits _ _ (byte (w .machine .pc)) (byte (w .machine .pc + 1))
+      fits = decode-fits _ _ _ (byte (w .machine .pc)) (byte (w .machine .pc + 1))
 
   pub step-ready : (keys random : ℕ) → Ready ((step keys random w) .world)
   unfolding step stepped

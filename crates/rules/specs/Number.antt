@@ -20,3 +20,7 @@ word n = n / 256 % 256 ∷ n % 256 ∷ []
 -- bit b of n, counted from the lowest
 abbrev pub bit : ℕ → ℕ → ℕ
 bit b n = n / 2 ^ b % 2
+
+-- and whether it is 1
+abbrev pub isOne : ℕ → ℕ → Bool
+isOne b n = eqb (bit b n) 1

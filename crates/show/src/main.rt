@@ -3,13 +3,14 @@
 mod blocks;
 
 use parts::Ran;
+use rules::Edition;
 use rules::Machine;
 
 // A program loaded and run. A refused load is a run of no step.
 fn run(program: &[u8], picture: &mut [u8]) -> Ran {
     let mut memory = [0u8; Machine::MEMORY];
     let mut history = [0u8; history::PLACE];
-    let start = chip8::load(program, &mut memory, picture, &mut history);
+    let start = chip8::load(Edition::First, program, &mut memory, picture, &mut history);
     let outcome = start.outcome;
     let machine = start.machine;
     let trail = start.trail;
