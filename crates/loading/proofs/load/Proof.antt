@@ -14,8 +14,8 @@ returns c =
 
 lay-out-requires : tie.Need-lay-out-requires
 lay-out-requires c κs =
-    let room = load-room _ _ _ _ _ (sym (c .before .before .before .judged .ensures) ∙ ap number (c .before .enum-told .given .1)) in
-    (room .sizes .memory, room .short)
+    let room = load-room _ _ _ _ (sym (c .before .before .before .judged .ensures) ∙ ap number (c .before .enum-told .given .1)) in
+    (room .memory, room .short)
 
 returns-2 : tie.Need-returns-2
 returns-2 c =
