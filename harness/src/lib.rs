@@ -1,5 +1,6 @@
 //! The host's side of the card: calls, a second interpreter, the comparison.
 
+pub mod buffers;
 pub mod card;
 pub mod case;
 pub mod check;

@@ -1,9 +1,11 @@
 //! Document 01's worked cases, "Both sides of each edge", and those of the
 //! requests that have landed, on every engine.
 
-use harness::case::Host;
-use harness::engine::{Archive, Buffers, Engine, Second, Tuned, ACCEPTED, ANSWER, WENT_DARK};
+use harness::buffers::{Host, Lent, Lists};
+use harness::card::Archive;
+use harness::engine::{Engine, Second, ACCEPTED, ANSWER, WENT_DARK};
 use harness::second::{Machine, IMAGE, MEMORY, PICTURE, PLACE};
+use harness::tuned::Tuned;
 
 /// A host with an engine, its machine taken apart for easy reading.
 struct Desk<'a> {
@@ -37,8 +39,8 @@ impl Desk<'_> {
         desk
     }
 
-    fn buffers(&mut self) -> Buffers<'_> {
-        self.host.buffers()
+    fn buffers(&mut self) -> Lent<'_> {
+        self.host.lend()
     }
 
     fn machine(&self) -> Machine {
@@ -88,7 +90,12 @@ impl Desk<'_> {
         let mut answer = [7; ANSWER];
         let engine = self.engine;
         let (keys, randoms) = (vec![0; ticks.len()], vec![0; ticks.len()]);
-        let refusal = engine.run(self.buffers(), ticks, &keys, &randoms, &mut answer);
+        let lists = Lists {
+            first: ticks,
+            keys: &keys,
+            randoms: &randoms,
+        };
+        let refusal = engine.run(self.buffers(), lists, &mut answer);
         (refusal, answer)
     }
 
@@ -361,7 +368,12 @@ fn the_answer_is_written_whole_or_left_alone() {
         for length in [0, 1, 3, 5] {
             let mut answer = vec![7; length];
             assert_eq!(engine.step(desk.buffers(), 0, 0, &mut answer), 9);
-            assert_eq!(engine.run(desk.buffers(), &[0], &[0], &[0], &mut answer), 9);
+            let lists = Lists {
+                first: &[0],
+                keys: &[0],
+                randoms: &[0],
+            };
+            assert_eq!(engine.run(desk.buffers(), lists, &mut answer), 9);
             assert_eq!(answer, vec![7; length]);
             assert_eq!(desk.host, before);
         }
