@@ -5,6 +5,7 @@ pub mod card;
 pub mod case;
 pub mod check;
 pub mod dots;
+pub mod edges;
 pub mod engine;
 pub mod generate;
 pub mod guard;
