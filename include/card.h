@@ -16,7 +16,8 @@
  *   picture  256 bytes     64 by 32 spots, 8 bytes a row, top row first, the
  *                          highest bit leftmost, 1 for a lit spot
  *   history  288 to 65,536 bytes, a place of 288 bytes for each action that can
- *            be taken back; bytes after the last whole place are not used
+ *            be taken back; bytes after the last whole place are in none, and
+ *            only a load writes them: it clears them with all the others
  *
  * Beside them, for card_panel alone:
  *
@@ -25,16 +26,24 @@
  *
  * Each buffer is handed over as a pointer and, right after it, its length. The
  * length counts elements: bytes, 16-bit numbers for keys, 64-bit numbers for an
- * answer. A wrong length is refused, so a call never reads or writes outside
- * the lengths that it was told.
+ * answer. So sizeof gives the length of a buffer of bytes, and of no other: an
+ * answer has CARD_ANSWER elements, and `sizeof answer` is eight times that. A
+ * wrong length is refused, so a call never reads or writes outside the lengths
+ * that it was told.
  *
  * What the host must see to:
  *   - A pointer is never null, even when the length is 0; any valid address
  *     will do then. It must be aligned for its type.
- *   - Two buffers of one call must not overlap.
+ *   - No buffer that is written overlaps another of the same call. Two that are
+ *     only read may: a run's ticks and random bytes can be one list of zeros.
  *   - Any contents are allowed. A state that cannot be is refused with
  *     CARD_UNSOUND; a history that somebody else wrote in may be refused with
  *     CARD_DAMAGED_RECORD.
+ *   - Somebody has written the contents. What is proved speaks of bytes that have
+ *     a value, so buffers that are still uninitialised are outside of it. An
+ *     accepted card_load writes every byte of image, memory, picture and history,
+ *     and a refused one every byte of the image; to be inside the proof with the
+ *     first load too, clear the four before it.
  *
  * Threads: calls on different buffers may be made at the same time. Buffers
  * that are lent to a call are not touched by anybody else until it ends.
@@ -50,9 +59,9 @@
  *
  * AN EXAMPLE
  *
- *   uint8_t image[CARD_IMAGE], memory[CARD_MEMORY], picture[CARD_PICTURE];
- *   uint8_t history[100 * CARD_PLACE];
- *   uint64_t answer[CARD_ANSWER];
+ *   uint8_t image[CARD_IMAGE] = {0}, memory[CARD_MEMORY] = {0};
+ *   uint8_t picture[CARD_PICTURE] = {0}, history[100 * CARD_PLACE] = {0};
+ *   uint64_t answer[CARD_ANSWER] = {0};   (its length is CARD_ANSWER, a count)
  *   const uint8_t program[] = {0x60, 0x05, 0x70, 0x03};   (V0 = 5, V0 += 3)
  *
  *   card_load(program, sizeof program, image, sizeof image, memory,

@@ -3,7 +3,8 @@
 
 use std::time::{Duration, Instant};
 
-use crate::case::{write_bytes, Call, Case, Host, Part};
+use crate::buffers::{Host, PARTS};
+use crate::case::{write_bytes, Call, Case};
 use crate::check::make;
 use crate::engine::Second;
 use crate::second::PLACE;
@@ -199,9 +200,10 @@ impl Shrinker<'_> {
     }
 
     fn clear_start(&mut self) {
-        for part in [Part::Memory, Part::History, Part::Picture, Part::Image] {
+        // The image last: its bytes mean the most.
+        for &(part, _) in PARTS.iter().rev() {
             let length = self.case.start.part(part).len();
-            self.clear_bytes(length, move |case| case.start.part(part));
+            self.clear_bytes(length, move |case| case.start.part_mut(part));
         }
     }
 
@@ -229,10 +231,10 @@ impl Shrinker<'_> {
 /// A call as the second interpreter makes it.
 fn make_on(host: &mut Host, call: &Call) {
     if let Call::Write { part, at, bytes } = call {
-        write_bytes(host.part(*part), *at, bytes);
+        write_bytes(host.part_mut(*part), *at, bytes);
     } else {
         let mut answer = vec![0; call.answer_length()];
-        make(&Second, call, call.lists(), host.buffers(), &mut answer);
+        make(&Second, call, call.lists(), host.lend(), &mut answer);
     }
 }
 

@@ -9,10 +9,12 @@ use std::fmt;
 use std::hint::black_box;
 use std::time::Instant;
 
-use harness::card;
+use harness::buffers::{Host, Lists};
+use harness::card::{self, Archive};
 use harness::dots::PANEL;
-use harness::engine::{Archive, Buffers, Engine, Tuned, ACCEPTED, ANSWER};
+use harness::engine::{Engine, ACCEPTED, ANSWER};
 use harness::second::{HISTORY_MOST, IMAGE, LIST_MOST, MEMORY, PICTURE, PLACE};
+use harness::tuned::Tuned;
 
 const TURNS: usize = 25;
 const LISTS_A_TURN: usize = 10;
@@ -205,10 +207,7 @@ fn clear_places(history: &mut [u8]) {
 /// A loaded machine with an engine and its lists.
 struct Desk<'a, E> {
     engine: &'a E,
-    image: Vec<u8>,
-    memory: Vec<u8>,
-    picture: Vec<u8>,
-    history: Vec<u8>,
+    host: Host,
     ticks: Vec<u8>,
     keys: Vec<u16>,
     randoms: Vec<u8>,
@@ -218,45 +217,40 @@ impl<E: Engine> Desk<'_, E> {
     fn new<'a>(words: &[u16], history_length: usize, engine: &'a E) -> Desk<'a, E> {
         let mut desk = Desk {
             engine,
-            image: vec![0; IMAGE],
-            memory: vec![0; MEMORY],
-            picture: vec![0; PICTURE],
-            history: vec![0; history_length],
+            host: Host {
+                image: vec![0; IMAGE],
+                memory: vec![0; MEMORY],
+                picture: vec![0; PICTURE],
+                history: vec![0; history_length],
+            },
             ticks: vec![0; LIST_MOST],
             keys: vec![0; LIST_MOST],
             randoms: (0..LIST_MOST).map(|entry| entry as u8).collect(),
         };
         let program: Vec<u8> = words.iter().flat_map(|word| word.to_be_bytes()).collect();
-        let refusal = engine.load(desk.parts().0, &program);
+        let refusal = engine.load(desk.host.lend(), &program);
         assert_eq!(refusal, 0, "a program of the measurements is loaded");
         desk
     }
 
-    /// The four buffers, then the three lists.
-    fn parts(&mut self) -> (Buffers<'_>, &[u8], &[u16], &[u8]) {
-        let buffers = Buffers {
-            image: &mut self.image,
-            memory: &mut self.memory,
-            picture: &mut self.picture,
-            history: &mut self.history,
-        };
-        (buffers, &self.ticks, &self.keys, &self.randoms)
-    }
-
     fn run(&mut self) {
-        let engine = self.engine;
         let mut answer = [0; ANSWER];
-        let (buffers, ticks, keys, randoms) = self.parts();
-        let refusal = engine.run(buffers, ticks, keys, randoms, &mut answer);
+        let lists = Lists {
+            first: &self.ticks,
+            keys: &self.keys,
+            randoms: &self.randoms,
+        };
+        let refusal = self.engine.run(self.host.lend(), lists, &mut answer);
         assert_eq!((refusal, answer[ACCEPTED]), (0, LIST_MOST as u64));
     }
 
     fn steps(&mut self) {
-        let engine = self.engine;
         let mut answer = [0; ANSWER];
         for entry in 0..LIST_MOST {
-            let (buffers, _, keys, randoms) = self.parts();
-            let refusal = engine.step(buffers, keys[entry], randoms[entry], &mut answer);
+            let (keys, random) = (self.keys[entry], self.randoms[entry]);
+            let refusal = self
+                .engine
+                .step(self.host.lend(), keys, random, &mut answer);
             assert_eq!((refusal, answer[ACCEPTED]), (0, 1));
         }
     }

@@ -1,7 +1,8 @@
 //! Single calls with inputs of every kind.
 
 use super::instructions;
-use crate::case::{Call, Part};
+use crate::buffers::Part;
+use crate::case::Call;
 use crate::engine::ANSWER;
 use crate::random::Random;
 use crate::second::{Machine, LIST_MOST, MOVE_BACK, MOVE_STEP, MOVE_TICK};

@@ -1,7 +1,7 @@
 //! What a host holds at the start of a case.
 
 use super::instructions;
-use crate::case::Host;
+use crate::buffers::Host;
 use crate::random::Random;
 use crate::second::{Machine, HISTORY_MOST, MEMORY, PICTURE, PLACE, STACK};
 

@@ -1,7 +1,8 @@
 //! The kinds of cases.
 
 use super::{calls, hosts, instructions, programs, records};
-use crate::case::{write_bytes, Call, Case, Host, Part};
+use crate::buffers::{Host, Part};
+use crate::case::{write_bytes, Call, Case};
 use crate::random::Random;
 use crate::second::{
     places, Machine, HISTORY_MOST, LIST_MOST, MEMORY, MOVE_BACK, MOVE_STEP, PICTURE, PLACE, START,
