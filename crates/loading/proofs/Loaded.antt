@@ -3,6 +3,7 @@ use mathlib.Core.Path.{_≡_, refl, sym, ap, ap₂, _∙_}
 use mathlib.Core.Bool.{_&&_, and-eq-true-iff}
 use mathlib.Core.List.{List, _++_, append-assoc}
 use Prim.Native.Nat.{ℕ, _+_, _-_, _≤_}
+use native.Mathlib.Nat.{sub-zero}
 use lib.ListN.{length, take, drop, replicate, length-append, length-replicate, replicate-append-replicate}
 use lib.Seq.{take-at, drop-append-add}
 use lib.Dec.{leb}
@@ -72,10 +73,18 @@ module _ (program memory picture history : List ℕ) where
         short = leb-true _ _ (and-eq-true-iff (leb 1 (length program)) (leb (length program) 3584) .0 (second .0) .1);
       }
 
+  -- the picture and the history are cleared from their first byte on
   pub load-gives : loadRefusal program memory picture history ≡ 0 → (mem pic his : List ℕ) → mem ≡ loadedMemory program
-      → pic ≡ replicate (length picture) 0 → his ≡ replicate (length history) 0
+      → pic ≡ take 0 picture ++ replicate (length picture - 0) 0 → his ≡ take 0 history ++ replicate (length history - 0) 0
       → Gives (load program memory picture history) Done fresh freshTrail mem pic his
   unfolding load
   load-gives e mem pic his em ep eh =
       rw (answered-done (loadRefusal program memory picture history) (loaded program history) (freshWorld memory picture history) e)
-      (record { says = refl; machine = refl; trail = refl; memory = em; picture = rw ((load-room e) .sizes .picture) at ep; history = eh })
+      (record {
+        says = refl;
+        machine = refl;
+        trail = refl;
+        memory = em;
+        picture = rw (sub-zero, (load-room e) .sizes .picture) at ep;
+        history = rw sub-zero at eh;
+      })

@@ -11,7 +11,7 @@ returns c v stack = rw (c .before .before .enum-told3 .given .1, lt-ltb _ 12 (c 
 
 returns-2 : tie.Need-returns-2
 unfolding refusalOf
-returns-2 c v stack = rw (c .before .before .enum-told4 .given .1, lt-ltb _ _ (c .if2 .taken))
+returns-2 c v stack = rw (c .before .before .enum-told4 .given .1, lt-ltb 0 _ (c .if2 .taken))
 
 returns-3 : tie.Need-returns-3
 unfolding refusalOf
@@ -27,7 +27,7 @@ returns-5 c v stack = rw (c .before .before .enum-told3 .given .1, le-ltb _ 12 (
 
 returns-6 : tie.Need-returns-6
 unfolding refusalOf
-returns-6 c v stack = rw (c .before .before .enum-told4 .given .1, le-ltb _ _ (c .if2 .left))
+returns-6 c v stack = rw (c .before .before .enum-told4 .given .1, le-ltb 0 _ (c .if2 .left))
 
 returns-7 : tie.Need-returns-7
 unfolding refusalOf
