@@ -1,19 +1,21 @@
 // The library's calls on a machine that stands in an image of the right length: it is read, the call is made, and what the call gave is
 // written back.
 ghost use mathlib.Core.Path.{_≡_};
-ghost use mathlib.Core.Bool.{true, not, _||_};
+ghost use mathlib.Core.Bool.{true};
 ghost use mathlib.Core.List.{List};
 ghost use Prim.Native.Nat.{ℕ};
 ghost use lib.Dec.{eqb};
-ghost use lib.ListN.{length};
+ghost use lib.ListN.{length, drop};
 ghost use Rattle.rules.specs.Number.{pick};
 ghost use Rattle.rules.specs.Refusal as refusal;
 ghost use Rattle.rules.specs.Load as rules_load;
 ghost use Rattle.rules.specs.Call as rules_call;
 ghost use Rattle.rules.specs.Run as rules_run;
 ghost use Rattle.rules.specs.Dark.{stepDark, runDark};
+ghost use Rattle.rules.specs.State.{zeros};
+ghost use Rattle.rules.specs.Past.{PlayTells};
 ghost use Rattle.image.specs.Image.{imageSize, imageOf};
-ghost use Rattle.imaged.specs.Imaged.{worldOf, shown, whole, partly, Leaves};
+ghost use Rattle.imaged.specs.Imaged.{worldOf, shown, whole, ranOn, playedOn, Leaves};
 use parts::Answer;
 use rules::Outcome;
 
@@ -58,16 +60,16 @@ fn after_call(image: &mut [u8], answer: Answer) -> u32
     n
 }
 
-// A run and a play keep what they did before a refused step: only where they are refused themselves is the image left.
+// After a run or a play. One that is refused itself hands back the state as it came, so to write that changes no byte; and an image that
+// does not end in zeros, which no call takes, is left.
 fn after_list(image: &mut [u8], answer: Answer) -> u32
     requires { ⌜ length (now image) ≡ imageSize ⌝ }
-    ensures { λ r. ⌜ (r ≡ refusal.number (answer .outcome)) × (now (image .exit) ≡ pick
-        (not (eqb (refusal.number (answer .outcome)) 9 || eqb (refusal.number (answer .outcome)) 10))
+    ensures { λ r. ⌜ (r ≡ refusal.number (answer .outcome)) × (now (image .exit) ≡ pick (zeros (drop 52 (now (image .entry))))
         (imageOf (answer .machine) (answer .trail)) (now (image .entry))) ⌝ }
 {
     let outcome = answer.outcome;
     let n = number(outcome);
-    if !((n == 9) | (n == 10)) {
+    if image::ends_clear(image) {
         let machine = answer.machine;
         let trail = answer.trail;
         image::write(image, machine, trail);
@@ -175,11 +177,9 @@ pub fn run(
 ) -> Told
     requires { ⌜ length (now image) ≡ imageSize ⌝ }
     ensures { λ r. ⌜ Leaves
-        (partly (now (image .entry))
-        (
-        (rules_run.run (now (ticks .entry)) (now (keys .entry)) (now (randoms .entry))
-        (worldOf (now (image .entry)) (now (memory .entry)) (now (picture .entry)) (now (history .entry)))) .answer)) (r .number)
-        (now (image .exit)) (now (memory .exit)) (now (picture .exit)) (now (history .exit)) ⌝ }
+        (ranOn (now (ticks .entry)) (now (keys .entry)) (now (randoms .entry)) (now (image .entry)) (now (memory .entry))
+        (now (picture .entry)) (now (history .entry))) (r .number) (now (image .exit)) (now (memory .exit)) (now (picture .exit))
+        (now (history .exit)) ⌝ }
     ensures { λ r. ⌜ (r .accepted ≡ (rules_run.run (now (ticks .entry)) (now (keys .entry)) (now (randoms .entry))
         (worldOf (now (image .entry)) (now (memory .entry)) (now (picture .entry)) (now (history .entry)))) .accepted)
         × (r .dark ≡ runDark (now (ticks .entry)) (now (keys .entry)) (now (randoms .entry))
@@ -218,10 +218,12 @@ pub fn play(
 ) -> u32
     requires { ⌜ length (now image) ≡ imageSize ⌝ }
     ensures { λ r. ⌜ Leaves
-        (partly (now (image .entry))
-        (rules_run.play (now (moves .entry)) (now (keys .entry)) (now (randoms .entry))
-        (worldOf (now (image .entry)) (now (memory .entry)) (now (picture .entry)) (now (history .entry))))) r
-        (now (image .exit)) (now (memory .exit)) (now (picture .exit)) (now (history .exit)) ⌝ }
+        (playedOn (now (moves .entry)) (now (keys .entry)) (now (randoms .entry)) (now (image .entry)) (now (memory .entry))
+        (now (picture .entry)) (now (history .entry))) r (now (image .exit)) (now (memory .exit)) (now (picture .exit))
+        (now (history .exit)) ⌝ }
+    ensures { λ r. ⌜ PlayTells (now (moves .entry)) (now (keys .entry)) (now (randoms .entry))
+        (worldOf (now (image .entry)) (now (memory .entry)) (now (picture .entry)) (now (history .entry)))
+        (worldOf (now (image .exit)) (now (memory .exit)) (now (picture .exit)) (now (history .exit))) ⌝ }
 {
     let before = image::read(image);
     let m = before.machine;

@@ -29,7 +29,7 @@ digits-below : Below 256 digits
 unfolding allBelow
 digits-below = below-all 256 digits refl
 
-fresh-typed : TypedMachine fresh
+pub fresh-typed : TypedMachine fresh
 fresh-typed =
     record {
       vs = refl;

@@ -1,10 +1,10 @@
 -- The worked cases of document 01 that are marked P, and those of request Q-1: a table, and one statement that each of them holds.
-use mathlib.Core.Bool.{Bool, true, false, _&&_}
+use mathlib.Core.Bool.{Bool, true, _&&_}
 use mathlib.Core.List.{List, [], _∷_, _++_}
 use Prim.Native.Nat.{ℕ}
 use lib.ListN.{length, replicate}
 use lib.Dec.{T, eqb}
-use Rattle.rules.specs.Number.{word}
+use Rattle.rules.specs.Number.{word, same}
 use Rattle.rules.specs.State.{memorySize, pictureSize, startAddress, fresh, reg, withReg, withI}
 use Rattle.rules.specs.Instruction.{decode}
 use Rattle.rules.specs.Picture.{drawn, darkened}
@@ -68,12 +68,6 @@ given (v x n) b = record { machine = withReg x n (b .machine); memory = b .memor
 given (i a) b = record { machine = withI a (b .machine); memory = b .memory; picture = b .picture }
 given (bytes a l) b = record { machine = b .machine; memory = over (b .memory) a l (length l); picture = b .picture }
 given (shows l) b = record { machine = b .machine; memory = b .memory; picture = l }
-
-abbrev same : List ℕ → List ℕ → Bool
-same [] [] = true
-same [] (y ∷ ys) = false
-same (x ∷ xs) [] = false
-same (x ∷ xs) (y ∷ ys) = eqb x y && same xs ys
 
 abbrev isTrue : Fact → Board → Bool
 isTrue (v x n) b = eqb (reg (b .machine) x) n

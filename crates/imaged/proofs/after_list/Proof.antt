@@ -1,25 +1,17 @@
--- Written where the number is neither 9 nor 10, and else left.
-use mathlib.Core.Path.{_≡_}
-use mathlib.Core.Bool.{true, false, not, _||_}
-use lib.Dec.{eqb}
+-- Written where the image ends in zeros, and else left.
 use native.Mathlib.Omega.{arith}
+use mathlib.Core.Path.{sym, _∙_}
 use borrow.Author.Needs.{needs}
 use Rattle.imaged.proofs.after_list.Statement.{statement}
 use Rattle.imaged.proofs.after_list.Tie as tie
 
 returns : tie.Need-returns
 returns c =
-    let says = c .before .before .before .before .before .before .before .number .ensures in
-    let n = c .before .before .before .before .before .before .before .number .result in
-    let made : not (eqb n 9 || eqb n 10) ≡ true = c .before .before .before .before .before .before .if1 .taken in
-    (says, rw (← says, made) (c .before .before .write .ensures))
+    let test = c .before .before .before .before .before .before in
+    (test .before .before .before .number .ensures, rw (sym (test .before .ends-clear .ensures) ∙ test .if1 .taken) (c .before .before .write .ensures))
 
 returns-2 : tie.Need-returns-2
-returns-2 c =
-    let says = c .before .number .ensures in
-    let n = c .before .number .result in
-    let refused : not (eqb n 9 || eqb n 10) ≡ false = c .if1 .left in
-    (says, rw (← says, refused))
+returns-2 c = (c .before .before .before .number .ensures, rw (sym (c .before .ends-clear .ensures) ∙ c .if1 .left))
 
 pub after-list-spec : {M : Type 1} → statement M
-after-list-spec = tie.close (tie.spec (search needs) (search needs) (λ c. omega arith) returns returns-2)
+after-list-spec = tie.close (tie.spec (search needs) (search needs) (search needs) (λ c. omega arith) returns (search needs) returns-2)
