@@ -132,7 +132,7 @@ pub extern "C" fn card_run(
     if answer.len() != ANSWER {
         return 9;
     }
-    let told = imaged::run(image, memory, picture, history, ticks, keys, randoms);
+    let told = imaged_lists::run(image, memory, picture, history, ticks, keys, randoms);
     put_answer(answer, told.accepted, told.dark);
     told.number
 }
@@ -159,7 +159,7 @@ pub extern "C" fn card_play(
     if image.len() != image::IMAGE {
         return 9;
     }
-    imaged::play(image, memory, picture, history, moves, keys, randoms)
+    imaged_lists::play(image, memory, picture, history, moves, keys, randoms)
 }
 
 #[no_mangle]

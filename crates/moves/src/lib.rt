@@ -90,7 +90,7 @@ pub fn step(
         };
     }
     let op = decode::decode(memory[at], memory[at + 1]);
-    let outcome = judge::judged(op, c);
+    let outcome = verdict::judged(op, c);
     let Outcome::Done = outcome else {
         return Stepped {
             outcome,

@@ -118,7 +118,7 @@ pub fn play(
         (world machine trail (now (memory .entry)) (now (picture .entry)) (now (history .entry)))
         (world (r .machine) (r .trail) (now (memory .exit)) (now (picture .exit)) (now (history .exit))) ⌝ }
 {
-    let lists = running::lists_fit(moves.len(), keys.len(), randoms.len()) & all_moves(moves);
+    let lists = judge::lists_fit(moves.len(), keys.len(), randoms.len()) & all_moves(moves);
     let outcome = judge::admitted(machine, trail, memory, picture, history, lists);
     let Outcome::Done = outcome else {
         return Answer {

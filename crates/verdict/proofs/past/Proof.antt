@@ -1,8 +1,8 @@
 -- Each way out has the tests that led there.
 use borrow.Author.Needs.{needs}
 use borrow.Author.Tests.{eq-eqb, ne-eqb, le-leb, lt-leb}
-use Rattle.judge.proofs.past.Statement.{statement}
-use Rattle.judge.proofs.past.Tie as tie
+use Rattle.verdict.proofs.past.Statement.{statement}
+use Rattle.verdict.proofs.past.Tie as tie
 
 returns-2 : tie.Need-returns-2
 returns-2 c v stack = rw (ne-eqb _ 0 (c .before .before .if1 .left), le-leb _ 4096 (c .if2 .taken))

@@ -2,8 +2,8 @@
 use borrow.Author.Tests.{lt-ltb, le-ltb}
 use Rattle.rules.specs.Step.{refusalOf}
 use borrow.Author.Needs.{needs}
-use Rattle.judge.proofs.judged.Statement.{statement}
-use Rattle.judge.proofs.judged.Tie as tie
+use Rattle.verdict.proofs.judged.Statement.{statement}
+use Rattle.verdict.proofs.judged.Tie as tie
 
 returns : tie.Need-returns
 unfolding refusalOf

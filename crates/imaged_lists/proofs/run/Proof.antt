@@ -3,10 +3,10 @@ use native.Mathlib.Omega.{arith}
 use borrow.Author.Needs.{needs}
 use Rattle.rules.specs.Run.{run, runRefusal}
 use Rattle.rules.proofs.Parts.{below-of}
 use Rattle.imaged.specs.Imaged.{worldOf}
 use Rattle.imaged.proofs.Laws.{run-sound, run-left, seen-list}
-use Rattle.imaged.proofs.run.Statement.{statement}
-use Rattle.imaged.proofs.run.Tie as tie
+use Rattle.imaged_lists.proofs.run.Statement.{statement}
+use Rattle.imaged_lists.proofs.run.Tie as tie
 
 returns : tie.Need-returns
 returns c =

@@ -7,11 +7,11 @@ use Rattle.rules.specs.World.{World}
 use Rattle.rules.specs.Run.{play, playRefusal}
 use Rattle.rules.specs.Past.{PlayTells}
 use Rattle.rules.proofs.Parts.{below-of}
 use Rattle.imaged.specs.Imaged.{worldOf, Lent}
 use Rattle.imaged.proofs.Laws.{play-sound, play-left, seen-list}
 use Rattle.imaged.proofs.Chains.{play-stands}
-use Rattle.imaged.proofs.play.Statement.{statement}
-use Rattle.imaged.proofs.play.Tie as tie
+use Rattle.imaged_lists.proofs.play.Statement.{statement}
+use Rattle.imaged_lists.proofs.play.Tie as tie
 
 returns : tie.Need-returns
 returns c =
