@@ -247,8 +247,9 @@ enum card_move { CARD_MOVE_STEP = 0, CARD_MOVE_TICK = 1, CARD_MOVE_BACK = 2 };
  * equally long, 0 to 4,096 entries.
  *
  * Lists of unequal or greater length, or a move other than these three
- * anywhere, are CARD_LENGTH. That and CARD_UNSOUND refuse the play as a whole:
- * nothing is changed.
+ * anywhere, are CARD_LENGTH, and a state that cannot be is CARD_UNSOUND. Both
+ * are tested before the first move; a play that is refused there changes
+ * nothing.
  */
 uint32_t card_play(uint8_t *image, size_t image_length,
                    uint8_t *memory, size_t memory_length,

@@ -10,11 +10,11 @@ use Rattle.rules.specs.Number.{pick}
 use Rattle.rules.specs.Refusal.{numberOf}
 use Rattle.rules.specs.Load.{load}
 use Rattle.rules.specs.Call.{step, tick, back}
-use Rattle.rules.specs.Run.{run, play}
+use Rattle.rules.specs.Run.{run}
 use Rattle.rules.specs.Dark.{stepDark, runDark}
 use Rattle.panel.specs.Panel.{fits, panelRefusal, panelAfter, PanelOf}
 use Rattle.image.specs.Image.{imageSize}
-use Rattle.imaged.specs.Imaged.{Card, worldOf, shown, whole, partly}
+use Rattle.imaged.specs.Imaged.{Card, worldOf, shown, whole, ranOn, playedOn}
 
 abbrev pub sized : List ℕ → Bool
 sized image = eqb (length image) imageSize
@@ -49,12 +49,12 @@ cardBack image memory picture history =
 
 unfoldable pub cardRun : List ℕ → List ℕ → List ℕ → Bool → List ℕ → List ℕ → List ℕ → List ℕ → Card
 cardRun ticks keys randoms answers image memory picture history =
-    pick (sized image && answers) (partly image ((run ticks keys randoms (worldOf image memory picture history)) .answer))
+    pick (sized image && answers) (ranOn ticks keys randoms image memory picture history)
     (untouched (numberOf BufferLength) image memory picture history)
 
 unfoldable pub cardPlay : List ℕ → List ℕ → List ℕ → List ℕ → List ℕ → List ℕ → List ℕ → Card
 cardPlay moves keys randoms image memory picture history =
-    pick (sized image) (partly image (play moves keys randoms (worldOf image memory picture history)))
+    pick (sized image) (playedOn moves keys randoms image memory picture history)
     (untouched (numberOf BufferLength) image memory picture history)
 
 -- ---- the answer's four numbers: how many steps were accepted, how many spots they darkened, and two that are kept for what is to come

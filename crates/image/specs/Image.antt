@@ -2,7 +2,7 @@
 use mathlib.Core.Path.{_≡_}
 use mathlib.Core.Bool.{true}
 use mathlib.Core.List.{List, [], _∷_, _++_}
-use Prim.Native.Nat.{ℕ, _+_}
+use Prim.Native.Nat.{ℕ, _+_, _<_}
 use lib.ListN.{getD, length, drop, replicate}
 use lib.Dec.{eqb}
 use Rattle.rules.specs.declared.Machine.{Machine}
@@ -10,10 +10,10 @@ use Rattle.rules.specs.declared.Trail.{Trail}
 use Rattle.rules.specs.declared.Wait.{Wait}
 use Rattle.rules.specs.declared.Wait.the-variants.{Idle, Held}
 use Rattle.rules.specs.Number.{pick, word}
-use Rattle.rules.specs.State.{zeros}
+use Rattle.rules.specs.State.{zeros, sound}
 use Rattle.rules.specs.Memory.{part}
 use Rattle.rules.specs.Record.{byteAt, wordAt, heldByte}
-use Rattle.rules.specs.Typed.{Below}
+use Rattle.rules.specs.Typed.{Below, TypedMachine}
 
 abbrev pub imageSize : ℕ
 imageSize = 64
@@ -68,8 +68,20 @@ machineOf b =
 unfoldable pub trailOf : List ℕ → Trail
 trailOf b = record { next = wordAt b 48; kept = wordAt b 50 }
 
--- ---- THE CLAIM, proved in proofs/ReadsBack.antt: an image that is read and written again is the same bytes
+-- ---- THE CLAIMS, proved in proofs/ReadsBack.antt
 
+-- an image that is read and written again is the same bytes
 abbrev pub ReadsBack : Type 0
 ReadsBack =
     (b : List ℕ) → length b ≡ imageSize → Below 256 b → zeros (drop 52 b) ≡ true → imageOf (machineOf b) (trailOf b) ≡ b
+
+-- a state that its image holds whole: its numbers are ones that their types hold, it is sound, and next and kept are numbers of two bytes
+pub record Storable (m : Machine) (t : Trail) : Type 0 where
+  pub typed : TypedMachine m
+  pub sound : sound m ≡ true
+  pub next : t .next < 65536
+  pub kept : t .kept < 65536
+
+-- such a state that is written and read again is the same state
+abbrev pub ComesBack : Type 0
+ComesBack = (m : Machine) (t : Trail) → Storable m t → (machineOf (imageOf m t) ≡ m) × (trailOf (imageOf m t) ≡ t)

@@ -24,8 +24,8 @@ pub struct Standing {
 
 // ---- reading
 
-// Whether the bytes that are kept for later are 0.
-fn ends_clear(image: &[u8]) -> bool
+// Whether the bytes that are kept for later are 0. An image of which they are not stands for no sound state.
+pub fn ends_clear(image: &[u8]) -> bool
     requires { ⌜ length (now image) ≡ imageSize ⌝ }
     ensures { λ r. ⌜ r ≡ zeros (drop 52 (now (image .entry))) ⌝ }
 {
@@ -48,7 +48,7 @@ fn registers_in(image: &[u8]) -> [u8; 16]
     v
 }
 
-fn stack_in(image: &[u8]) -> [u16; 12]
+fn stack_in(image: &[u8]) -> [u16; Machine::STACK]
     requires { ⌜ length (now image) ≡ imageSize ⌝ }
     ensures { λ r. ⌜ r ≡ stackOf (now (image .entry)) ⌝ }
 {
@@ -170,12 +170,12 @@ fn put_word(image: &mut [u8], at: usize, n: u16)
     image[at + 1] = memory::low(n);
 }
 
-fn lay_stack(image: &mut [u8], stack: [u16; 12])
+fn lay_stack(image: &mut [u8], stack: [u16; Machine::STACK])
     requires { ⌜ length (now image) ≡ imageSize ⌝ }
     ensures { λ _. ⌜ Stands (sixFrom 0 stack ++ sixFrom 6 stack) (now (image .entry)) 24 (now (image .exit)) 48 ⌝ }
 {
     let mut k = 0;
-    while k < 12 {
+    while k < Machine::STACK {
         put_word(image, 24 + 2 * k, stack[k]);
         k += 1;
     }

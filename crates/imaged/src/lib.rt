@@ -1,7 +1,7 @@
-// The library's calls on a machine that stands in an image of the right length: it is read, the call is made, and what the call gave is
-// written back.
+// The library's single calls on a machine that stands in an image of the right length: it is read, the call is made, and what the call
+// gave is written back. A run and a play stand in `imaged_lists`.
 ghost use mathlib.Core.Path.{_≡_};
-ghost use mathlib.Core.Bool.{true, not, _||_};
+ghost use mathlib.Core.Bool.{true};
 ghost use mathlib.Core.List.{List};
 ghost use Prim.Native.Nat.{ℕ};
 ghost use lib.Dec.{eqb};
@@ -10,10 +10,9 @@ ghost use Rattle.rules.specs.Number.{pick};
 ghost use Rattle.rules.specs.Refusal as refusal;
 ghost use Rattle.rules.specs.Load as rules_load;
 ghost use Rattle.rules.specs.Call as rules_call;
-ghost use Rattle.rules.specs.Run as rules_run;
-ghost use Rattle.rules.specs.Dark.{stepDark, runDark};
+ghost use Rattle.rules.specs.Dark.{stepDark};
 ghost use Rattle.image.specs.Image.{imageSize, imageOf};
-ghost use Rattle.imaged.specs.Imaged.{worldOf, shown, whole, partly, Leaves};
+ghost use Rattle.imaged.specs.Imaged.{worldOf, shown, whole, Leaves};
 use parts::Answer;
 use rules::Outcome;
 
@@ -51,23 +50,6 @@ fn after_call(image: &mut [u8], answer: Answer) -> u32
     let outcome = answer.outcome;
     let n = number(outcome);
     if n == 0 {
-        let machine = answer.machine;
-        let trail = answer.trail;
-        image::write(image, machine, trail);
-    }
-    n
-}
-
-// A run and a play keep what they did before a refused step: only where they are refused themselves is the image left.
-fn after_list(image: &mut [u8], answer: Answer) -> u32
-    requires { ⌜ length (now image) ≡ imageSize ⌝ }
-    ensures { λ r. ⌜ (r ≡ refusal.number (answer .outcome)) × (now (image .exit) ≡ pick
-        (not (eqb (refusal.number (answer .outcome)) 9 || eqb (refusal.number (answer .outcome)) 10))
-        (imageOf (answer .machine) (answer .trail)) (now (image .entry))) ⌝ }
-{
-    let outcome = answer.outcome;
-    let n = number(outcome);
-    if !((n == 9) | (n == 10)) {
         let machine = answer.machine;
         let trail = answer.trail;
         image::write(image, machine, trail);
@@ -162,70 +144,4 @@ pub fn back(image: &mut [u8], memory: &mut [u8], picture: &mut [u8], history: &[
     let m = before.machine;
     let t = before.trail;
     after_call(image, chip8::back(m, t, memory, picture, history))
-}
-
-pub fn run(
-    image: &mut [u8],
-    memory: &mut [u8],
-    picture: &mut [u8],
-    history: &mut [u8],
-    ticks: &[u8],
-    keys: &[u16],
-    randoms: &[u8],
-) -> Told
-    requires { ⌜ length (now image) ≡ imageSize ⌝ }
-    ensures { λ r. ⌜ Leaves
-        (partly (now (image .entry))
-        (
-        (rules_run.run (now (ticks .entry)) (now (keys .entry)) (now (randoms .entry))
-        (worldOf (now (image .entry)) (now (memory .entry)) (now (picture .entry)) (now (history .entry)))) .answer)) (r .number)
-        (now (image .exit)) (now (memory .exit)) (now (picture .exit)) (now (history .exit)) ⌝ }
-    ensures { λ r. ⌜ (r .accepted ≡ (rules_run.run (now (ticks .entry)) (now (keys .entry)) (now (randoms .entry))
-        (worldOf (now (image .entry)) (now (memory .entry)) (now (picture .entry)) (now (history .entry)))) .accepted)
-        × (r .dark ≡ runDark (now (ticks .entry)) (now (keys .entry)) (now (randoms .entry))
-        (worldOf (now (image .entry)) (now (memory .entry)) (now (picture .entry)) (now (history .entry)))) ⌝ }
-{
-    let before = image::read(image);
-    let m = before.machine;
-    let t = before.trail;
-    let ran = chip8::run(m, t, memory, picture, history, ticks, keys, randoms);
-    let outcome = ran.outcome;
-    let machine = ran.machine;
-    let trail = ran.trail;
-    let n = after_list(
-        image,
-        Answer {
-            outcome,
-            machine,
-            trail,
-        },
-    );
-    Told {
-        number: n,
-        accepted: ran.accepted as u64,
-        dark: ran.dark as u64,
-    }
-}
-
-pub fn play(
-    image: &mut [u8],
-    memory: &mut [u8],
-    picture: &mut [u8],
-    history: &mut [u8],
-    moves: &[u8],
-    keys: &[u16],
-    randoms: &[u8],
-) -> u32
-    requires { ⌜ length (now image) ≡ imageSize ⌝ }
-    ensures { λ r. ⌜ Leaves
-        (partly (now (image .entry))
-        (rules_run.play (now (moves .entry)) (now (keys .entry)) (now (randoms .entry))
-        (worldOf (now (image .entry)) (now (memory .entry)) (now (picture .entry)) (now (history .entry))))) r
-        (now (image .exit)) (now (memory .exit)) (now (picture .exit)) (now (history .exit)) ⌝ }
-{
-    let before = image::read(image);
-    let m = before.machine;
-    let t = before.trail;
-    let answer = chip8::play(m, t, memory, picture, history, moves, keys, randoms);
-    after_list(image, answer)
 }

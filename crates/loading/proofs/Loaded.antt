@@ -3,6 +3,7 @@ use mathlib.Core.Path.{_≡_, refl, sym, ap, ap₂, _∙_}
 use mathlib.Core.Bool.{_&&_, and-eq-true-iff}
 use mathlib.Core.List.{List, _++_, append-assoc}
 use Prim.Native.Nat.{ℕ, _+_, _-_, _≤_}
+use native.Mathlib.Nat.{sub-zero}
 use lib.ListN.{length, take, drop, replicate, length-append, length-replicate, replicate-append-replicate}
 use lib.Seq.{take-at, drop-append-add}
 use lib.Dec.{leb}
@@ -78,8 +79,9 @@ module _ (edition : Edition) (program memory picture history : List ℕ) where
   load-refused r e =
       given-refused (loadRefusal program memory picture history) (loaded edition program history) (freshWorld edition memory picture history) r e
 
+  -- the picture and the history are cleared from their first byte on
   pub load-gives : loadRefusal program memory picture history ≡ 0 → (mem pic his : List ℕ) → mem ≡ loadedMemory program
-      → pic ≡ replicate (length picture) 0 → his ≡ replicate (length history) 0
+      → pic ≡ take 0 picture ++ replicate (length picture - 0) 0 → his ≡ take 0 history ++ replicate (length history - 0) 0
       → Gives (load edition program memory picture history) Done (fresh edition) freshTrail mem pic his
   unfolding load
   load-gives e mem pic his em ep eh =
@@ -89,6 +91,6 @@ module _ (edition : Edition) (program memory picture history : List ℕ) where
         machine = refl;
         trail = refl;
         memory = em;
-        picture = rw ((load-room program memory picture history e) .picture) at ep;
-        history = eh;
+        picture = rw (sub-zero, (load-room program memory picture history e) .picture) at ep;
+        history = rw sub-zero at eh;
       })

@@ -36,8 +36,7 @@ fn run(program: &[u8], picture: &mut [u8]) -> Ran {
 }
 
 fn main() {
-    // One byte more than the longest program, so that a longer input is seen to be too long.
-    let mut input = [0u8; 3585];
+    let mut input = [0u8; Machine::TOO_LONG];
     let size = io::read_full(0, &mut input);
     let mut picture = [0u8; Machine::PICTURE];
     let ran = run(&input[..size], &mut picture);
