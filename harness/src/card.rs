@@ -49,8 +49,8 @@ impl Engine for Archive {
     fn name(&self) -> &'static str {
         "the card's archive"
     }
-    fn load(&self, lent: Lent, program: &[u8]) -> u32 {
-        cross!(card_load: read u8 program, machine lent)
+    fn load(&self, lent: Lent, program: &[u8], edition: u8) -> u32 {
+        cross!(card_load: read u8 program, value u8 edition, machine lent)
     }
     fn step(&self, lent: Lent, keys: u16, random: u8, answer: &mut [u64]) -> u32 {
         cross!(card_step: machine lent, value u16 keys, value u8 random, write u64 answer)

@@ -10,6 +10,7 @@ use crate::second::{Machine, IMAGE, PLACE};
 pub enum Call {
     Load {
         program: Vec<u8>,
+        edition: u8,
     },
     Step {
         keys: u16,
@@ -48,7 +49,7 @@ impl Call {
     /// The lists that the call is lent; most calls are lent none.
     pub fn lists(&self) -> Lists<'_> {
         let (first, keys, randoms): (&[u8], &[u16], &[u8]) = match self {
-            Call::Load { program } => (program, &[], &[]),
+            Call::Load { program, .. } => (program, &[], &[]),
             Call::Run {
                 ticks: first,
                 keys,
@@ -105,8 +106,8 @@ impl fmt::Display for Host {
             let m = Machine::from_image(&self.image);
             writeln!(
                 f,
-                "    PC {:04X}, I {:04X}, depth {}, delay {:02X}, tone {:02X}, wait {:?}, next {}, kept {}",
-                m.pc, m.i, m.depth, m.delay, m.tone, m.wait, m.next, m.kept
+                "    PC {:04X}, I {:04X}, depth {}, delay {:02X}, tone {:02X}, wait {:?}, next {}, kept {}, edition {}",
+                m.pc, m.i, m.depth, m.delay, m.tone, m.wait, m.next, m.kept, m.edition
             )?;
         }
         for (part, name) in PARTS {
@@ -134,9 +135,13 @@ fn buffer(f: &mut fmt::Formatter, name: &str, bytes: &[u8]) -> fmt::Result {
 impl fmt::Display for Call {
     fn fmt(&self, f: &mut fmt::Formatter) -> fmt::Result {
         match self {
-            Call::Load { program } => {
+            Call::Load { program, edition } => {
                 let bytes = in_rows(program, |byte| format!("{byte:02X}"));
-                write!(f, "load {} bytes [{bytes}]", program.len())
+                write!(
+                    f,
+                    "load {} bytes [{bytes}] edition {edition}",
+                    program.len()
+                )
             }
             Call::Step {
                 keys,

@@ -52,7 +52,7 @@ pub fn fails(engine: &dyn Engine, case: &Case) -> bool {
 /// Makes one call with these lists. A host's own write is no call.
 pub fn make(engine: &dyn Engine, call: &Call, lists: Lists, lent: Lent, answer: &mut [u64]) -> u32 {
     match call {
-        Call::Load { .. } => engine.load(lent, lists.first),
+        Call::Load { edition, .. } => engine.load(lent, lists.first, *edition),
         Call::Step { keys, random, .. } => engine.step(lent, *keys, *random, answer),
         Call::Tick => engine.tick(lent),
         Call::Back => engine.back(lent),

@@ -6,7 +6,9 @@ use crate::card::Archive;
 use crate::case::{hex, Call, Case};
 use crate::check::{check, check_panel, make, UNWRITTEN};
 use crate::engine::{Engine, Second, ANSWER};
-use crate::second::{Machine, HISTORY_MOST, IMAGE, LIST_MOST, MEMORY, PICTURE, PLACE};
+use crate::second::{
+    Machine, FIRST_EDITION, HISTORY_MOST, IMAGE, LATER, LIST_MOST, MEMORY, PICTURE, PLACE,
+};
 use crate::tally::Tally;
 use crate::{dots, tuned::Tuned};
 
@@ -72,8 +74,9 @@ fn fields() -> Vec<Field> {
         field("held", 23, Form::Byte, Some(0xFF)),
         field("next", 48, Form::Count, None),
         field("kept", 50, Form::Count, None),
+        field("edition", 52, Form::Byte, Some(0)),
     ]);
-    fields.extend((52..IMAGE).map(|at| field(&format!("byte {at}"), at, Form::Byte, Some(0))));
+    fields.extend(LATER.map(|at| field(&format!("byte {at}"), at, Form::Byte, Some(0))));
     fields
 }
 
@@ -183,7 +186,7 @@ impl Desk {
             keys: vec![0; LIST_MOST + 1],
             calls: 0,
         };
-        desk.keep("image", &Machine::fresh().to_image());
+        desk.keep("image", &Machine::fresh(FIRST_EDITION).to_image());
         desk
     }
 
@@ -244,8 +247,10 @@ impl Desk {
 
     fn read_call(&self, words: &[&str]) -> Result<Call, String> {
         Ok(match words {
-            ["load", length] => Call::Load {
+            ["load", length] => self.read_call(&["load", length, "edition", "00"])?,
+            ["load", length, "edition", edition] => Call::Load {
                 program: first(&self.known("program").bytes, length)?,
+                edition: number(edition, 16)?,
             },
             ["step", inputs @ ..] => self.step(inputs)?,
             ["tick"] => Call::Tick,

@@ -13,7 +13,7 @@ pub const WENT_DARK: usize = 1;
 /// The six calls. Each answers the refusal number, 0 for done.
 pub trait Engine {
     fn name(&self) -> &'static str;
-    fn load(&self, lent: Lent, program: &[u8]) -> u32;
+    fn load(&self, lent: Lent, program: &[u8], edition: u8) -> u32;
     fn step(&self, lent: Lent, keys: u16, random: u8, answer: &mut [u64]) -> u32;
     fn tick(&self, lent: Lent) -> u32;
     fn back(&self, lent: Lent) -> u32;
@@ -53,9 +53,9 @@ impl Engine for Second {
     fn name(&self) -> &'static str {
         "the second interpreter"
     }
-    fn load(&self, lent: Lent, program: &[u8]) -> u32 {
+    fn load(&self, lent: Lent, program: &[u8], edition: u8) -> u32 {
         with_machine(lent, |machine, lent| {
-            let (loaded, outcome) = second::load(program, lent);
+            let (loaded, outcome) = second::load(program, edition, lent);
             *machine = loaded;
             number(outcome)
         })

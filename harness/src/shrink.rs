@@ -7,7 +7,7 @@ use crate::buffers::{Host, PARTS};
 use crate::case::{write_bytes, Call, Case};
 use crate::check::make;
 use crate::engine::Second;
-use crate::second::PLACE;
+use crate::second::{FIRST_EDITION, PLACE};
 
 /// Tries changes of a case and keeps those after which it still fails.
 struct Shrinker<'a> {
@@ -99,11 +99,16 @@ impl Shrinker<'_> {
                     }
                 });
             }
-            Call::Load { program } => {
+            Call::Load { program, .. } => {
                 let length = program.len();
+                self.try_case(|case| {
+                    if let Call::Load { edition, .. } = &mut case.calls[number] {
+                        *edition = FIRST_EDITION;
+                    }
+                });
                 self.drop_entries(number, length);
                 self.clear_bytes(length, move |case| match &mut case.calls[number] {
-                    Call::Load { program } => program,
+                    Call::Load { program, .. } => program,
                     _ => unreachable!("the call stays a load"),
                 });
             }
@@ -136,7 +141,7 @@ impl Shrinker<'_> {
             while end > 0 {
                 let first = end.saturating_sub(row);
                 self.try_case(|case| match &mut case.calls[number] {
-                    Call::Load { program } => drop_row(program, first, end),
+                    Call::Load { program, .. } => drop_row(program, first, end),
                     Call::Run {
                         ticks: list,
                         keys,

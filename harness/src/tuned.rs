@@ -17,6 +17,8 @@ const LIST_MOST: usize = 4096;
 const PROGRAM_MOST: usize = 3584;
 const START: usize = 0x0200;
 const NO_KEY: u8 = 0xFF;
+const FIRST_EDITION: u8 = 0;
+const SECOND_EDITION: u8 = 1;
 
 const PROGRAM_COUNTER: u32 = 1;
 const NOT_LISTED: u32 = 2;
@@ -109,6 +111,7 @@ struct Work {
     stack: [u16; 16],
     next: usize,
     kept: usize,
+    second_edition: bool,
     /// Lit spots that the steps so far have darkened. Only a drawing adds to it,
     /// so other steps do no work for it.
     went_dark: u64,
@@ -130,10 +133,12 @@ impl Work {
         let held = image[23];
         let next = usize::from(number(image, 48));
         let kept = usize::from(number(image, 50));
+        let edition = image[52];
         let sound = depth <= 12
             && entries_from(&stack, depth) == 0
             && (held <= 15 || held == NO_KEY)
-            && image[52..] == [0; 12]
+            && edition <= SECOND_EDITION
+            && image[53..] == [0; 11]
             && next < places
             && kept <= places;
         if !sound {
@@ -151,11 +156,13 @@ impl Work {
             stack,
             next,
             kept,
+            second_edition: edition == SECOND_EDITION,
             went_dark: 0,
         })
     }
 
-    /// The image's last twelve bytes are 0 already, or it had been refused.
+    /// The edition stands in the image already, and the eleven bytes after it are
+    /// 0, or it had been refused.
     #[inline(always)]
     fn write(&self, image: &mut Image) {
         image[..16].copy_from_slice(&self.v.0.to_be_bytes());
@@ -297,6 +304,22 @@ impl Work {
                 0x5 => {
                     self.v.set(x, vx.wrapping_sub(vy));
                     self.v.set_flag(vx >= vy);
+                }
+                0x3 if self.second_edition => {
+                    self.v.set(x, vx ^ vy);
+                    self.v.set_flag(false);
+                }
+                0x6 if self.second_edition => {
+                    self.v.set(x, vy >> 1);
+                    self.v.set_flag(vy & 1 != 0);
+                }
+                0x7 if self.second_edition => {
+                    self.v.set(x, vy.wrapping_sub(vx));
+                    self.v.set_flag(vy >= vx);
+                }
+                0xE if self.second_edition => {
+                    self.v.set(x, vy << 1);
+                    self.v.set_flag(vy & 0x80 != 0);
                 }
                 _ => return NOT_LISTED,
             },
@@ -560,16 +583,21 @@ impl Engine for Tuned {
         "the hand-tuned engine"
     }
 
-    fn load(&self, lent: Lent, program: &[u8]) -> u32 {
+    fn load(&self, lent: Lent, program: &[u8], edition: u8) -> u32 {
         let Ok(image) = <&mut Image>::try_from(lent.image) else {
             return LENGTH;
         };
         image.fill(0);
         image[18..20].copy_from_slice(&(START as u16).to_be_bytes());
         image[23] = NO_KEY;
+        let listed = edition <= SECOND_EDITION;
+        image[52] = if listed { edition } else { FIRST_EDITION };
         let (memory, picture, history) = (lent.memory, lent.picture, lent.history);
         if memory.len() != MEMORY || picture.len() != PICTURE || places_of(history).is_none() {
             return LENGTH;
+        }
+        if !listed {
+            return UNSOUND;
         }
         if program.is_empty() || program.len() > PROGRAM_MOST {
             return PROGRAM_LENGTH;

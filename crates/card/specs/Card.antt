@@ -8,13 +8,12 @@ use lib.Dec.{eqb}
 use Rattle.rules.specs.declared.Refusal.the-variants.{BufferLength}
 use Rattle.rules.specs.Number.{pick}
 use Rattle.rules.specs.Refusal.{numberOf}
-use Rattle.rules.specs.Load.{load}
 use Rattle.rules.specs.Call.{step, tick, back}
 use Rattle.rules.specs.Run.{run}
 use Rattle.rules.specs.Dark.{stepDark, runDark}
 use Rattle.panel.specs.Panel.{fits, panelRefusal, panelAfter, PanelOf}
 use Rattle.image.specs.Image.{imageSize}
-use Rattle.imaged.specs.Imaged.{Card, worldOf, shown, whole, ranOn, playedOn}
+use Rattle.imaged.specs.Imaged.{Card, worldOf, shown, loadBy, whole, ranOn, playedOn}
 
 abbrev pub sized : List ℕ → Bool
 sized image = eqb (length image) imageSize
@@ -27,9 +26,9 @@ untouched n image memory picture history =
 -- ---- the calls; an image, or an answer, of a wrong length is 9
 
 -- a load leaves the fresh image, refused or not
-unfoldable pub cardLoad : List ℕ → List ℕ → List ℕ → List ℕ → List ℕ → Card
-cardLoad program image memory picture history =
-    pick (sized image) (shown true image (load program memory picture history))
+unfoldable pub cardLoad : List ℕ → ℕ → List ℕ → List ℕ → List ℕ → List ℕ → Card
+cardLoad program edition image memory picture history =
+    pick (sized image) (shown true image (loadBy edition program memory picture history))
     (untouched (numberOf BufferLength) image memory picture history)
 
 unfoldable pub cardStep : ℕ → ℕ → Bool → List ℕ → List ℕ → List ℕ → List ℕ → Card

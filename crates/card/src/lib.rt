@@ -31,19 +31,20 @@ fn put_answer(answer: &mut [u64], accepted: u64, dark: u64)
 #[no_mangle]
 pub extern "C" fn card_load(
     program: &[u8],
+    edition: u8,
     image: &mut [u8],
     memory: &mut [u8],
     picture: &mut [u8],
     history: &mut [u8],
 ) -> u32
     ensures { λ r. ⌜ Leaves
-        (spec.cardLoad (now (program .entry)) (now (image .entry)) (now (memory .entry)) (now (picture .entry))
+        (spec.cardLoad (now (program .entry)) edition (now (image .entry)) (now (memory .entry)) (now (picture .entry))
         (now (history .entry))) r (now (image .exit)) (now (memory .exit)) (now (picture .exit)) (now (history .exit)) ⌝ }
 {
     if image.len() != image::IMAGE {
         return 9;
     }
-    imaged::load(program, image, memory, picture, history)
+    imaged::load(program, edition, image, memory, picture, history)
 }
 
 #[no_mangle]

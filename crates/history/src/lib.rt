@@ -79,7 +79,7 @@ fn stack_at(place: &[u8], stack: [u16; Machine::STACK]) -> [u16; Machine::STACK]
     cut(s, depth)
 }
 
-// The state before the action. Of the state after it only the stack below the last return address is used.
+// The state before the action. Of the state after it only the edition and the stack below the last return address are used.
 fn machine_at(place: &[u8], m: Machine) -> Machine
     requires { ⌜ length (now place) ≡ placeSize ⌝ }
     requires { ⌜ byteAt (now place) atDepth ≤ stackSize ⌝ }
@@ -88,6 +88,7 @@ fn machine_at(place: &[u8], m: Machine) -> Machine
     let v = registers_at(place);
     let after = m.stack;
     let stack = stack_at(place, after);
+    let edition = m.edition;
     Machine {
         v,
         i: memory::word_at(place, keeping::AT_I),
@@ -99,6 +100,7 @@ fn machine_at(place: &[u8], m: Machine) -> Machine
             tone: place[keeping::AT_TONE],
         },
         wait: wait_at(place),
+        edition,
     }
 }
 

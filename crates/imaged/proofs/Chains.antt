@@ -7,6 +7,8 @@ use native.Mathlib.Omega.{arith}
 use lib.ListN.{length}
 use lib.Dec.{eqb, ltb, leb}
 use borrow.Author.Tests.{ltb-true, leb-true, eqb-true, eqb-false, ne-eqb}
+use Rattle.rules.specs.declared.Edition.{Edition}
+use Rattle.rules.specs.declared.Edition.the-variants.{First}
 use Rattle.rules.specs.declared.Machine.{Machine}
 use Rattle.rules.specs.declared.Trail.{Trail}
 use Rattle.rules.specs.declared.Outcome.{Outcome}
@@ -19,15 +21,15 @@ use Rattle.rules.specs.Call.{step, stepRefusal, stepped, tick, tickRefusal, tic
 use Rattle.rules.specs.Run.{run, runRefusal, play, playRefusal}
 use Rattle.rules.specs.Typed.{Below, none, more, TypedMachine, TypedBoard}
 use Rattle.rules.specs.Promise.{Gives}
-use Rattle.rules.proofs.Choices.{by-test, passed}
+use Rattle.rules.proofs.Choices.{choice, by-test, passed}
 use Rattle.rules.proofs.Parts.{part-length, below-get, below-take, below-drop}
 use Rattle.rules.proofs.Sound.{good-sound}
 use Rattle.rules.proofs.Load.{fresh-typed}
 use Rattle.rules.proofs.Ready.{Ready, tests-ready, ready-typed, next-below, grown-most, stepped-ready, undone-ready}
 use Rattle.rules.proofs.Stays.{play-lasts, run-lasts}
-use Rattle.image.specs.Image.{imageOf, machineOf, trailOf, Storable}
+use Rattle.image.specs.Image.{imageOf, editionOf, machineOf, trailOf, Storable}
 use Rattle.image.proofs.ReadsBack.{comes-back}
-use Rattle.imaged.specs.Imaged.{worldOf, shown, whole, playedOn, standing, Leaves, Lent, Chains}
+use Rattle.imaged.specs.Imaged.{worldOf, shown, loadBy, whole, playedOn, standing, Leaves, Lent, Chains}
 use Rattle.imaged.proofs.Laws.{run-left, play-left}
 
 -- ---- states that an image holds whole
@@ -124,12 +126,19 @@ module _ (img mem pic his : List ℕ) (lent : Lent img mem pic his) where
           let same = outer (eqb-false own 0 e) in
           ap (λ (w : World). worldOf img (w .memory) (w .picture) (w .history)) same ∙ sym same
 
-  load-stands : (program : List ℕ) → standing (shown true img (load program mem pic his)) ≡ (load program mem pic his) .world
+  fresh-storable : (edition : Edition) → Storable (fresh edition) freshTrail
+  fresh-storable edition = record { typed = fresh-typed edition; sound = refl; next = omega arith; kept = omega arith }
+
+  known-stands : (edition : Edition) (program : List ℕ) → let a = load edition program mem pic his in standing (shown true img a) ≡ a .world
   unfolding load
-  load-stands program =
-      let s : Storable fresh freshTrail = record { typed = fresh-typed; sound = refl; next = omega arith; kept = omega arith } in
+  known-stands edition program =
       by-test (λ (a : Answer). standing (shown true img a) ≡ a .world) (loadRefusal program mem pic his) 0
-      (λ e. stands (loaded program his) s) (λ ne. stands (freshWorld mem pic his) s)
+      (λ e. stands (loaded edition program his) (fresh-storable edition)) (λ ne. stands (freshWorld edition mem pic his) (fresh-storable edition))
+
+  load-stands : (edition : ℕ) (program : List ℕ) → let a = loadBy edition program mem pic his in standing (shown true img a) ≡ a .world
+  load-stands edition program =
+      choice (λ (a : Answer). standing (shown true img a) ≡ a .world) (leb edition 1) (known-stands (editionOf edition) program)
+      (stands (freshWorld First mem pic his) (fresh-storable First))
 
   step-stands : (keys random : ℕ) → standing (whole img (step keys random here)) ≡ (step keys random here) .world
   unfolding step stepRefusal

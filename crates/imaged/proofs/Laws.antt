@@ -19,7 +19,7 @@ use Rattle.rules.specs.Run.{listsFit, movesFit, run, runRefusal, play, playRefu
 use Rattle.rules.specs.Promise.{Gives}
 use Rattle.rules.proofs.Choices.{by-test}
 use Rattle.rules.proofs.Given.{tested-sound}
-use Rattle.image.specs.Image.{imageOf, machineOf, trailOf}
+use Rattle.image.specs.Image.{inOrder, imageOf, machineOf, trailOf}
 use Rattle.image.proofs.ReadsBack.{reads-back}
 use Rattle.imaged.specs.Imaged.{worldOf, shown, Leaves}
 
@@ -55,25 +55,25 @@ module _ (first keys randoms : List ℕ) (w : World) where
   unfolding play
   play-left ne = rw (ne-eqb (playRefusal first keys randoms w) 0 ne)
 
-clear-depth : (clear : Bool) (depth : ℕ) → leb (pick clear depth 255) 12 ≡ true → clear ≡ true
-clear-depth true depth e = refl
-clear-depth false depth e = absurd (false≢true e)
+order-depth : (clear : Bool) (depth : ℕ) → leb (pick clear depth 255) 12 ≡ true → clear ≡ true
+order-depth true depth e = refl
+order-depth false depth e = absurd (false≢true e)
 
--- an image that stands for a sound state ends in zeros
-sound-clear : (b : List ℕ) → sound (machineOf b) ≡ true → zeros (drop 52 b) ≡ true
+-- an image that stands for a sound state is in order
+sound-order : (b : List ℕ) → sound (machineOf b) ≡ true → inOrder b ≡ true
 unfolding machineOf
-sound-clear b e =
+sound-order b e =
     let m = machineOf b in
     let first = and-eq-true-iff (leb (m .depth) 12 && zeros (drop (m .depth) (m .stack))) (heldSound (m .wait)) .0 e in
-    clear-depth (zeros (drop 52 b)) (byteAt b 20) (and-eq-true-iff (leb (m .depth) 12) (zeros (drop (m .depth) (m .stack))) .0 (first .0) .0)
+    order-depth (inOrder b) (byteAt b 20) (and-eq-true-iff (leb (m .depth) 12) (zeros (drop (m .depth) (m .stack))) .0 (first .0) .0)
 
 -- where its own tests admit it the image stands for a sound state, and where they do not the call hands back the world as it came: so what
--- is written, wherever the image ends in zeros, is what the definition says
+-- is written, wherever the image is in order, is what the definition says
 module _ (image memory picture history : List ℕ) (size : length image ≡ 64) (bytes : Below 256 image) (own : ℕ) (a : Answer)
     (inner : own ≡ 0 → soundly (worldOf image memory picture history) ≡ true)
     (outer : (own ≡ 0 → ⊥) → a .world ≡ worldOf image memory picture history) where
   written : {img : List ℕ} (m : Machine) (t : Trail) → m ≡ a .world .machine → t ≡ a .world .trail
-      → img ≡ pick (zeros (drop 52 image)) (imageOf m t) image → img ≡ pick (eqb own 0) (imageOf (a .world .machine) (a .world .trail)) image
+      → img ≡ pick (inOrder image) (imageOf m t) image → img ≡ pick (eqb own 0) (imageOf (a .world .machine) (a .world .trail)) image
   written {img} m t em et w = by-test (λ (l : List ℕ). img ≡ l) own 0 admitted refused
     where
       again : imageOf m t ≡ imageOf (a .world .machine) (a .world .trail)
@@ -82,20 +82,20 @@ module _ (image memory picture history : List ℕ) (size : length image ≡ 64) 
       admitted : own ≡ 0 → img ≡ imageOf (a .world .machine) (a .world .trail)
       admitted e =
           let m₀ = machineOf image in
-          let clear = sound-clear image (and-eq-true-iff (sound m₀) (trailFits (trailOf image) history) .0 (inner e) .0) in
+          let clear = sound-order image (and-eq-true-iff (sound m₀) (trailFits (trailOf image) history) .0 (inner e) .0) in
           (rw clear at w) ∙ again
 
       -- what is written of the world as it came is the same bytes
-      unchanged : (own ≡ 0 → ⊥) → (clear : Bool) → zeros (drop 52 image) ≡ clear → img ≡ pick clear (imageOf m t) image → img ≡ image
+      unchanged : (own ≡ 0 → ⊥) → (clear : Bool) → inOrder image ≡ clear → img ≡ pick clear (imageOf m t) image → img ≡ image
       unchanged ne true z e =
           e ∙ again ∙ ap (λ (v : World). imageOf (v .machine) (v .trail)) (outer ne) ∙ reads-back image size bytes z
       unchanged ne false z e = e
 
       refused : (own ≡ 0 → ⊥) → img ≡ image
-      refused ne = unchanged ne (zeros (drop 52 image)) refl w
+      refused ne = unchanged ne (inOrder image) refl w
 
   pub seen-list : (n : ℕ) (o : Outcome) (m : Machine) (t : Trail) (img mem pic his : List ℕ)
-      → Gives a o m t mem pic his → n ≡ number o → img ≡ pick (zeros (drop 52 image)) (imageOf m t) image
+      → Gives a o m t mem pic his → n ≡ number o → img ≡ pick (inOrder image) (imageOf m t) image
       → Leaves (shown (eqb own 0) image a) n img mem pic his
   seen-list n o m t img mem pic his g e w =
       record {

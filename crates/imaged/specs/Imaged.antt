@@ -4,14 +4,17 @@ use mathlib.Core.Bool.{Bool, true}
 use mathlib.Core.List.{List}
 use Prim.Native.Nat.{ℕ}
 use lib.ListN.{length}
-use lib.Dec.{eqb}
-use Rattle.rules.specs.Number.{pick}
-use Rattle.rules.specs.World.{World, Answer, world}
-use Rattle.rules.specs.Load.{load}
+use lib.Dec.{eqb, leb}
+use Rattle.rules.specs.declared.Edition.the-variants.{First}
+use Rattle.rules.specs.declared.Refusal.the-variants.{BufferLength, Unsound}
+use Rattle.rules.specs.Number.{pick, unless}
+use Rattle.rules.specs.Refusal.{numberOf}
+use Rattle.rules.specs.World.{World, Answer, world, sizesFit}
+use Rattle.rules.specs.Load.{freshWorld, load}
 use Rattle.rules.specs.Call.{step, tick, back}
 use Rattle.rules.specs.Run.{run, runRefusal, play, playRefusal}
 use Rattle.rules.specs.Typed.{Below}
-use Rattle.image.specs.Image.{imageSize, imageOf, machineOf, trailOf}
+use Rattle.image.specs.Image.{imageSize, imageOf, editionOf, machineOf, trailOf}
 
 pub record Card : Type 0 where
   pub refusal : ℕ
@@ -34,6 +37,15 @@ shown anew image a =
       picture = a .world .picture;
       history = a .world .history;
     }
+
+-- a load of the edition that a byte names: where it names none that is 10, between 9 and 8, and the fresh state is of the first edition
+abbrev pub loadBy : ℕ → List ℕ → List ℕ → List ℕ → List ℕ → Answer
+loadBy edition program memory picture history =
+    pick (leb edition 1) (load (editionOf edition) program memory picture history)
+    (record {
+      refusal = unless (sizesFit memory picture history) (numberOf BufferLength) (numberOf Unsound);
+      world = freshWorld First memory picture history;
+    })
 
 -- an accepted call writes the image
 abbrev pub whole : List ℕ → Answer → Card
@@ -73,7 +85,7 @@ abbrev pub standing : Card → World
 standing c = worldOf (c .image) (c .memory) (c .picture) (c .history)
 
 pub record Chains (img mem pic his : List ℕ) : Type 0 where
-  pub load : (program : List ℕ) → standing (shown true img (load program mem pic his)) ≡ (load program mem pic his) .world
+  pub load : (edition : ℕ) (program : List ℕ) → let a = loadBy edition program mem pic his in standing (shown true img a) ≡ a .world
   pub step : (keys random : ℕ) → let a = step keys random (worldOf img mem pic his) in standing (whole img a) ≡ a .world
   pub tick : let a = tick (worldOf img mem pic his) in standing (whole img a) ≡ a .world
   pub back : let a = back (worldOf img mem pic his) in standing (whole img a) ≡ a .world

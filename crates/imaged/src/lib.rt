@@ -6,15 +6,22 @@ ghost use mathlib.Core.List.{List};
 ghost use Prim.Native.Nat.{ℕ};
 ghost use lib.Dec.{eqb};
 ghost use lib.ListN.{length};
-ghost use Rattle.rules.specs.Number.{pick};
+ghost use Rattle.rules.specs.declared.Edition.the-variants.{First};
+ghost use Rattle.rules.specs.Number.{pick, unless};
 ghost use Rattle.rules.specs.Refusal as refusal;
+ghost use Rattle.rules.specs.State.{fresh};
+ghost use Rattle.rules.specs.World.{sizesFit};
+ghost use Rattle.rules.specs.Load.{freshTrail};
 ghost use Rattle.rules.specs.Load as rules_load;
 ghost use Rattle.rules.specs.Call as rules_call;
 ghost use Rattle.rules.specs.Dark.{stepDark};
 ghost use Rattle.image.specs.Image.{imageSize, imageOf};
-ghost use Rattle.imaged.specs.Imaged.{worldOf, shown, whole, Leaves};
+ghost use Rattle.imaged.specs.Imaged.{worldOf, shown, loadBy, whole, Leaves};
 use parts::Answer;
+use rules::Edition;
+use rules::Machine;
 use rules::Outcome;
+use rules::Trail;
 
 // What a step and a run tell besides the bytes: the refusal number or 0, the accepted steps, and the lit spots that they darkened.
 pub struct Told {
@@ -60,7 +67,8 @@ fn after_call(image: &mut [u8], answer: Answer) -> u32
 // ---- the calls
 
 // A load leaves the fresh image, refused or not.
-pub fn load(
+fn load_known(
+    edition: Edition,
     program: &[u8],
     image: &mut [u8],
     memory: &mut [u8],
@@ -70,15 +78,61 @@ pub fn load(
     requires { ⌜ length (now image) ≡ imageSize ⌝ }
     ensures { λ r. ⌜ Leaves
         (shown true (now (image .entry))
-        (rules_load.load (now (program .entry)) (now (memory .entry)) (now (picture .entry)) (now (history .entry)))) r
+        (rules_load.load edition (now (program .entry)) (now (memory .entry)) (now (picture .entry)) (now (history .entry)))) r
         (now (image .exit)) (now (memory .exit)) (now (picture .exit)) (now (history .exit)) ⌝ }
 {
-    let answer = chip8::load(program, memory, picture, history);
+    let answer = chip8::load(edition, program, memory, picture, history);
     let m = answer.machine;
     let t = answer.trail;
     image::write(image, m, t);
     let outcome = answer.outcome;
     number(outcome)
+}
+
+// An edition that there is not: 9 comes before 10, and the fresh image is of the first edition.
+fn load_unknown(image: &mut [u8], memory: &[u8], picture: &[u8], history: &[u8]) -> u32
+    requires { ⌜ length (now image) ≡ imageSize ⌝ }
+    ensures { λ r. ⌜ (r ≡ unless (sizesFit (now (memory .entry)) (now (picture .entry)) (now (history .entry))) 9 10)
+        × (now (image .exit) ≡ imageOf (fresh First) freshTrail) ⌝ }
+{
+    image::write(
+        image,
+        Machine::fresh(Edition::First),
+        Trail { next: 0, kept: 0 },
+    );
+    if judge::sizes_fit(memory, picture, history) {
+        10
+    } else {
+        9
+    }
+}
+
+// A load of the edition that a byte names.
+pub fn load(
+    program: &[u8],
+    edition: u8,
+    image: &mut [u8],
+    memory: &mut [u8],
+    picture: &mut [u8],
+    history: &mut [u8],
+) -> u32
+    requires { ⌜ length (now image) ≡ imageSize ⌝ }
+    ensures { λ r. ⌜ Leaves
+        (shown true (now (image .entry))
+        (loadBy edition (now (program .entry)) (now (memory .entry)) (now (picture .entry)) (now (history .entry)))) r
+        (now (image .exit)) (now (memory .exit)) (now (picture .exit)) (now (history .exit)) ⌝ }
+{
+    if 1 < edition {
+        return load_unknown(image, memory, picture, history);
+    }
+    load_known(
+        image::edition_of(edition),
+        program,
+        image,
+        memory,
+        picture,
+        history,
+    )
 }
 
 pub fn step(

@@ -1,29 +1,28 @@
 // A run and a play on a machine that stands in an image of the right length: it is read, the call is made, and what the call gave is
 // written back.
 ghost use mathlib.Core.Path.{_≡_};
-ghost use lib.ListN.{length, drop};
+ghost use lib.ListN.{length};
 ghost use Rattle.rules.specs.Number.{pick};
 ghost use Rattle.rules.specs.Refusal as refusal;
 ghost use Rattle.rules.specs.Run as rules_run;
 ghost use Rattle.rules.specs.Dark.{runDark};
-ghost use Rattle.rules.specs.State.{zeros};
 ghost use Rattle.rules.specs.Past.{PlayTells};
-ghost use Rattle.image.specs.Image.{imageSize, imageOf};
+ghost use Rattle.image.specs.Image.{imageSize, inOrder, imageOf};
 ghost use Rattle.imaged.specs.Imaged.{worldOf, ranOn, playedOn, Leaves};
 use imaged::Told;
 use imaged::number;
 use parts::Answer;
 
 // After a run or a play. One that is refused itself hands back the state as it came, so to write that changes no byte; and an image that
-// does not end in zeros, which no call takes, is left.
+// is not in order, which no call takes, is left.
 fn after_list(image: &mut [u8], answer: Answer) -> u32
     requires { ⌜ length (now image) ≡ imageSize ⌝ }
-    ensures { λ r. ⌜ (r ≡ refusal.number (answer .outcome)) × (now (image .exit) ≡ pick (zeros (drop 52 (now (image .entry))))
+    ensures { λ r. ⌜ (r ≡ refusal.number (answer .outcome)) × (now (image .exit) ≡ pick (inOrder (now (image .entry)))
         (imageOf (answer .machine) (answer .trail)) (now (image .entry))) ⌝ }
 {
     let outcome = answer.outcome;
     let n = number(outcome);
-    if image::ends_clear(image) {
+    if image::in_order(image) {
         let machine = answer.machine;
         let trail = answer.trail;
         image::write(image, machine, trail);

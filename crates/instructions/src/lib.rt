@@ -2,9 +2,9 @@
 // is, and then written. Each contract speaks of the whole machine, beside any stack.
 ghost use mathlib.Core.Path.{_≡_};
 ghost use mathlib.Core.List.{List};
-ghost use Prim.Native.Nat.{ℕ, _≤_, _%_, _+_, _-_};
+ghost use Prim.Native.Nat.{ℕ, _≤_, _%_, _/_, _*_, _+_, _-_};
 ghost use lib.Dec.{ltb, leb};
-ghost use Rattle.rules.specs.Number.{pick};
+ghost use Rattle.rules.specs.Number.{pick, isOne};
 ghost use Rattle.rules.specs.State.{withPc, withTimers};
 ghost use Rattle.rules.specs.Registers as state;
 ghost use Rattle.parts.specs.Whole.{whole};
@@ -46,11 +46,26 @@ fn plus(x: u8, a: u8, b: u8) -> Effect
     Effect::Flagged(x, std::num::wrapping_add_u8(a, b), carry)
 }
 
-// 8XY5
+// 8XY5, and 8XY7 with the registers exchanged
 fn minus(x: u8, a: u8, b: u8) -> Effect
     ensures { λ r. ⌜ r ≡ Flagged x ((a + 256 - b) % 256) (pick (leb b a) 1 0) ⌝ }
 {
     Effect::Flagged(x, std::num::wrapping_sub_u8(a, b), flag(b <= a))
+}
+
+// 8XY6
+fn halved(x: u8, b: u8) -> Effect
+    ensures { λ r. ⌜ r ≡ Flagged x (b / 2) (pick (isOne 0 b) 1 0) ⌝ }
+{
+    Effect::Flagged(x, b / 2, flag(b % 2 == 1))
+}
+
+// 8XYE
+fn doubled(x: u8, b: u8) -> Effect
+    ensures { λ r. ⌜ r ≡ Flagged x (2 * b % 256) (pick (isOne 7 b) 1 0) ⌝ }
+{
+    let twice = (2 * (b as u16) % 256) as u8;
+    Effect::Flagged(x, twice, flag(b / 128 % 2 == 1))
 }
 
 // What the instruction writes.
@@ -76,6 +91,10 @@ fn effect_of(s: Simple, c: Core, v: &[u8; 16], keys: u16, random: u8) -> Effect
         Simple::And(x, y) => Effect::Flagged(x, get(v, x) & get(v, y), 0),
         Simple::Plus(x, y) => plus(x, get(v, x), get(v, y)),
         Simple::Minus(x, y) => minus(x, get(v, x), get(v, y)),
+        Simple::Xor(x, y) => Effect::Flagged(x, get(v, x) ^ get(v, y), 0),
+        Simple::Halve(x, y) => halved(x, get(v, y)),
+        Simple::MinusFrom(x, y) => minus(x, get(v, y), get(v, x)),
+        Simple::Double(x, y) => doubled(x, get(v, y)),
         Simple::Index(a) => Effect::Index(a),
         Simple::AddIndex(x) => Effect::Index(std::num::wrapping_add_u16(c.i, get(v, x) as u16)),
         Simple::Digit(x) => Effect::Index(5 * ((get(v, x) % 16) as u16)),

@@ -8,6 +8,7 @@ ghost use Rattle.rules.specs.Load as rule;
 ghost use Rattle.rules.specs.Promise.{Gives};
 use digits::lay_digits;
 use parts::Answer;
+use rules::Edition;
 use rules::Machine;
 use rules::Outcome;
 use rules::Refusal;
@@ -37,13 +38,19 @@ fn lay_out(program: &[u8], memory: &mut [u8])
     memory::lay(memory, Machine::START, program);
 }
 
-// Loads a program: digits, program and zeros to memory, zeros to the picture and the history.
-pub fn load(program: &[u8], memory: &mut [u8], picture: &mut [u8], history: &mut [u8]) -> Answer
+// Loads a program for an edition: digits, program and zeros to memory, zeros to the picture and the history.
+pub fn load(
+    edition: Edition,
+    program: &[u8],
+    memory: &mut [u8],
+    picture: &mut [u8],
+    history: &mut [u8],
+) -> Answer
     ensures { λ r. ⌜ Gives
-        (rule.load (now (program .entry)) (now (memory .entry)) (now (picture .entry)) (now (history .entry))) (r .outcome)
+        (rule.load edition (now (program .entry)) (now (memory .entry)) (now (picture .entry)) (now (history .entry))) (r .outcome)
         (r .machine) (r .trail) (now (memory .exit)) (now (picture .exit)) (now (history .exit)) ⌝ }
 {
-    let machine = Machine::fresh();
+    let machine = Machine::fresh(edition);
     let trail = Trail { next: 0, kept: 0 };
     let outcome = judged(program, memory, picture, history);
     let Outcome::Done = outcome else {

@@ -129,7 +129,7 @@ module _ (w : World) (h : Ready w) where
 
     -- a pattern has at most fifteen bytes
     pub few-bytes : patternBytes op ≤ 15
-    few-bytes = rw e (fifteen (opAt (boardOf w)) (decode-fits _ _ (byte (m .pc)) (byte (m .pc + 1))))
+    few-bytes = rw e (fifteen (opAt (boardOf w)) (decode-fits _ _ _ (byte (m .pc)) (byte (m .pc + 1))))
 
     -- ---- what they make together
 

@@ -89,7 +89,8 @@ pub fn step(
             dark: 0,
         };
     }
-    let op = decode::decode(memory[at], memory[at + 1]);
+    let edition = c.edition;
+    let op = decode::decode(edition, memory[at], memory[at + 1]);
     let outcome = verdict::judged(op, c);
     let Outcome::Done = outcome else {
         return Stepped {

@@ -6,6 +6,7 @@ ghost use Prim.Native.Nat.{ℕ};
 ghost use Rattle.rules.specs.Record.{heldByte};
 ghost use Rattle.rules.specs.Refusal as refusal;
 ghost use Rattle.parts.specs.Whole as spec;
+use rules::Edition;
 use rules::Machine;
 use rules::Outcome;
 use rules::Refusal;
@@ -20,6 +21,7 @@ pub struct Core {
     pub depth: u8,
     pub timers: Timers,
     pub wait: Wait,
+    pub edition: Edition,
 }
 
 pub fn core_of(m: Machine) -> Core
@@ -27,12 +29,14 @@ pub fn core_of(m: Machine) -> Core
 {
     let timers = m.timers;
     let wait = m.wait;
+    let edition = m.edition;
     Core {
         i: m.i,
         pc: m.pc,
         depth: m.depth,
         timers,
         wait,
+        edition,
     }
 }
 
@@ -41,6 +45,7 @@ pub fn whole(c: Core, v: [u8; 16], stack: [u16; Machine::STACK]) -> Machine
 {
     let timers = c.timers;
     let wait = c.wait;
+    let edition = c.edition;
     Machine {
         v,
         i: c.i,
@@ -49,6 +54,7 @@ pub fn whole(c: Core, v: [u8; 16], stack: [u16; Machine::STACK]) -> Machine
         depth: c.depth,
         timers,
         wait,
+        edition,
     }
 }
 

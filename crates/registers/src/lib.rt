@@ -98,12 +98,14 @@ fn with_wait(c: Core, w: Wait) -> Core
     ensures { λ r. ⌜ ((v stack : List ℕ) → whole r v stack ≡ withWait w (whole c v stack)) ⌝ }
 {
     let timers = c.timers;
+    let edition = c.edition;
     Core {
         i: c.i,
         pc: c.pc,
         depth: c.depth,
         timers,
         wait: w,
+        edition,
     }
 }
 

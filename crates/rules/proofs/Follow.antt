@@ -8,8 +8,10 @@ use lib.ListN.{getD, set, take, drop, length, length-append, length-take, length
 use lib.ListN.{take-append-drop, drop-of-length-le}
 use lib.Seq.{drop-at, take-set-le, drop-set-lt, set-split, drop-drop, length-take-le}
 use lib.Dec.{eqb, ltb, leb}
-use lib.Bits.{and-le-r, and-lt, or-lt}
+use lib.Bits.{and-le-r, and-lt, or-lt, xor-lt}
 use borrow.Author.Tests.{ltb-true, leb-true, eqb-true, eqb-false, le-leb, ne-eqb}
+use Rattle.rules.specs.declared.Edition.{Edition}
+use Rattle.rules.specs.declared.Edition.the-variants.{First, Second}
 use Rattle.rules.specs.declared.Machine.{Machine}
 use Rattle.rules.specs.declared.Timers.{Timers}
 use Rattle.rules.specs.declared.Wait.{Wait}
@@ -20,11 +22,11 @@ use Rattle.rules.specs.declared.Change.{Change}
 use Rattle.rules.specs.declared.Change.the-variants.{Nothing, InMemory, InPicture}
 use Rattle.rules.specs.declared.Simple.{Simple}
 use Rattle.rules.specs.declared.Simple.the-variants.{Jump, JumpFrom, SkipEqual, SkipDiffers, SkipSame, SkipOther, SkipDown, SkipUp}
-use Rattle.rules.specs.declared.Simple.the-variants.{Put, Add, Chance, Copy, Or, And, Plus, Minus}
+use Rattle.rules.specs.declared.Simple.the-variants.{Put, Add, Chance, Copy, Or, And, Plus, Minus, Xor, Halve, MinusFrom, Double}
 use Rattle.rules.specs.declared.Simple.the-variants.{Index, AddIndex, Digit, FromDelay, ToDelay, ToTone}
-use Rattle.rules.specs.Number.{pick}
+use Rattle.rules.specs.Number.{pick, isOne}
 use Rattle.rules.specs.State.{heldSound, reg, withV, withReg, withI, withPc, withTimers, withStack, withWait, upTo}
-use Rattle.rules.specs.Instruction.{decode}
+use Rattle.rules.specs.Instruction.{inSecond, decode}
 use Rattle.rules.specs.Registers.{simple, skipIf, skipUnless, flagged, awaited, called, returned, onward, down, lowestFrom}
 use Rattle.rules.specs.Picture.{drawn, darkened}
 use Rattle.rules.specs.Memory.{part, over, digitsOf}
@@ -57,6 +59,10 @@ SimpleFits (Or x y) = Unit {0}
 SimpleFits (And x y) = Unit {0}
 SimpleFits (Plus x y) = Unit {0}
 SimpleFits (Minus x y) = Unit {0}
+SimpleFits (Xor x y) = Unit {0}
+SimpleFits (Halve x y) = Unit {0}
+SimpleFits (MinusFrom x y) = Unit {0}
+SimpleFits (Double x y) = Unit {0}
 SimpleFits (Index a) = a < 4096
 SimpleFits (AddIndex x) = Unit {0}
 SimpleFits (Digit x) = Unit {0}
@@ -83,9 +89,13 @@ record Fit (o : Op) : Type 0 where
 fit : {o : Op} → OpFits o → Fit o
 fit h = record { fits = h }
 
-pub decode-fits : (hi lo : ℕ) → hi < 256 → lo < 256 → OpFits (decode hi lo)
+fit-second : (edition : Edition) {o : Op} → Fit o → Fit (inSecond edition o)
+fit-second First h = fit tt
+fit-second Second h = h
+
+pub decode-fits : (edition : Edition) (hi lo : ℕ) → hi < 256 → lo < 256 → OpFits (decode edition hi lo)
 unfolding decode
-decode-fits hi lo hh lh = tree .fits
+decode-fits edition hi lo hh lh = tree .fits
   where
     first : (k : ℕ) {p q : Op} → Fit p → Fit q → Fit (pick (eqb (hi / 16) k) p q)
     first k = choice Fit (eqb (hi / 16) k)
@@ -99,7 +109,11 @@ decode-fits hi lo hh lh = tree .fits
     address : hi % 16 * 256 + lo < 4096
     address = omega arith
 
-    tree : Fit (decode hi lo)
+    -- an operation of the second edition
+    new : {o : Op} → Fit o → Fit (inSecond edition o)
+    new = fit-second edition
+
+    tree : Fit (decode edition hi lo)
     tree =
         first 0x0 (choice Fit (eqb hi 0x00 && eqb lo 0xE0) (fit tt) (choice Fit (eqb hi 0x00 && eqb lo 0xEE) (fit tt) (fit tt)))
         (first 0x1 (fit address)
@@ -109,7 +123,9 @@ decode-fits hi lo hh lh = tree .fits
         (first 0x5 (last 0x0 (fit tt) (fit tt))
         (first 0x6 (fit lh)
         (first 0x7 (fit tt)
-        (first 0x8 (last 0x0 (fit tt) (last 0x1 (fit tt) (last 0x2 (fit tt) (last 0x4 (fit tt) (last 0x5 (fit tt) (fit tt))))))
+        (first 0x8
+        (last 0x0 (fit tt) (last 0x1 (fit tt) (last 0x2 (fit tt) (last 0x4 (fit tt) (last 0x5 (fit tt)
+        (last 0x3 (new (fit tt)) (last 0x6 (new (fit tt)) (last 0x7 (new (fit tt)) (last 0xE (new (fit tt)) (fit tt))))))))))
         (first 0x9 (last 0x0 (fit tt) (fit tt))
         (first 0xA (fit address)
         (first 0xB (fit tt)
@@ -197,6 +213,10 @@ module _ (m : Machine) (g : GoodMachine m) (near : m .pc ≤ 4094) where
   simple-reached (And x y) keys random f = put-flag x _ false (and-lt 8 (reg m x) (reg m y) (reg-below x) (reg-below y))
   simple-reached (Plus x y) keys random f = put-flag x _ (ltb 255 (reg m x + reg m y)) (omega arith)
   simple-reached (Minus x y) keys random f = put-flag x _ (leb (reg m y) (reg m x)) (omega arith)
+  simple-reached (Xor x y) keys random f = put-flag x _ false (xor-lt 8 (reg m x) (reg m y) (reg-below x) (reg-below y))
+  simple-reached (Halve x y) keys random f = put-flag x _ (isOne 0 (reg m y)) (omega (arith, reg-below y))
+  simple-reached (MinusFrom x y) keys random f = put-flag x _ (leb (reg m x) (reg m y)) (omega arith)
+  simple-reached (Double x y) keys random f = put-flag x _ (isOne 7 (reg m y)) (omega arith)
   simple-reached (Index a) keys random f = keep-onward (keep-i (keep g) _ (omega arith)) near
   simple-reached (AddIndex x) keys random f = keep-onward (keep-i (keep g) _ (omega arith)) near
   simple-reached (Digit x) keys random f = keep-onward (keep-i (keep g) _ (omega (arith, reg-below x))) near

@@ -1,4 +1,4 @@
--- The laws of choices and lists, the laws of the definitions, and the proofs of what Past claims.
+-- The laws of choices and lists, the laws of the definitions, and the proofs of what Editions and Past claim.
 pub mod Choices
 pub mod Good
 pub mod Parts
@@ -11,6 +11,9 @@ pub mod Follow
 pub mod Sound
 pub mod Zeros
 pub mod Ready
+pub mod Still
+pub mod Each
+pub mod Editions
 pub mod StepsBack
 pub mod Load
 pub mod OnlyOne

@@ -7,6 +7,7 @@ use native.Mathlib.Omega.{arith}
 use lib.ListN.{length, length-append, length-replicate}
 use lib.Dec.{ltb, leb}
 use borrow.Author.Tests.{ltb-true, leb-true, eq-eqb, le-leb}
+use Rattle.rules.specs.declared.Edition.{Edition}
 use Rattle.rules.specs.State.{fresh}
 use Rattle.rules.specs.World.{Answer, boardOf, sizesFit}
 use Rattle.rules.specs.Load.{digits, freshWorld, loaded, loadedMemory, load, loadRefusal}
@@ -29,8 +30,8 @@ digits-below : Below 256 digits
 unfolding allBelow
 digits-below = below-all 256 digits refl
 
-pub fresh-typed : TypedMachine fresh
-fresh-typed =
+pub fresh-typed : (edition : Edition) → TypedMachine (fresh edition)
+fresh-typed edition =
     record {
       vs = refl;
       v = below-zeros 16 (omega arith);
@@ -52,11 +53,11 @@ unfolding loadedMemory
 loaded-below program h =
     below-append (below-append (below-append digits-below (below-zeros 432 (omega arith))) h) (below-zeros (3584 - length program) (omega arith))
 
-loaded-starts : (program history : List ℕ) → Below 256 program → length program ≤ 3584 → 288 ≤ length history → length history ≤ 65536
-    → TypedBoard (boardOf (loaded program history)) × Start (loaded program history)
-loaded-starts program history h fits least most =
+loaded-starts : (edition : Edition) (program history : List ℕ) → Below 256 program → length program ≤ 3584 → 288 ≤ length history
+    → length history ≤ 65536 → TypedBoard (boardOf (loaded edition program history)) × Start (loaded edition program history)
+loaded-starts edition program history h fits least most =
     let long : length (zeroes (length history)) ≡ length history = length-replicate {A = ℕ} (length history) 0 in (
-      record { machine = fresh-typed; memory = loaded-below program h; picture = below-zeros 256 (omega arith) },
+      record { machine = fresh-typed edition; memory = loaded-below program h; picture = below-zeros 256 (omega arith) },
       record {
         fits = and-both (and-both (eq-eqb _ _ (loaded-length program fits)) (eq-eqb _ _ (length-replicate {A = ℕ} 256 0)))
             (rw long (and-both (le-leb _ _ least) (le-leb _ _ most)));
@@ -68,14 +69,14 @@ loaded-starts program history h fits least most =
 
 pub load-starts : LoadStarts
 unfolding load loadRefusal
-load-starts program memory picture history h =
+load-starts edition program memory picture history h =
     by-test (λ (a : Answer). a .refusal ≡ 0 → TypedBoard (boardOf (a .world)) × Start (a .world)) (loadRefusal program memory picture history) 0 (λ e _. start e)
     (λ ne e. absurd (ne e))
   where
-    start : loadRefusal program memory picture history ≡ 0 → TypedBoard (boardOf (loaded program history)) × Start (loaded program history)
+    start : loadRefusal program memory picture history ≡ 0 → TypedBoard (boardOf (loaded edition program history)) × Start (loaded edition program history)
     start e =
         let first = passed (sizesFit memory picture history) 8 _ e in
         let second = passed (leb 1 (length program) && leb (length program) 3584) 7 0 (first .1) in
-        let room = fits-passed (freshWorld memory picture history) (first .0) in
+        let room = fits-passed (freshWorld edition memory picture history) (first .0) in
         let short = leb-true _ _ (and-eq-true-iff (leb 1 (length program)) (leb (length program) 3584) .0 (second .0) .1) in
-        loaded-starts program history h short (room .least) (room .most)
+        loaded-starts edition program history h short (room .least) (room .most)

@@ -147,7 +147,7 @@ module _ (w : World) (h : Ready w) where
       byte a = below-get (omega arith) (h .good .memory .below) a
 
       fits : OpFits (opAt (boardOf w))
-      fits = decode-fits _ _ (byte (w .machine .pc)) (byte (w .machine .pc + 1))
+      fits = decode-fits _ _ _ (byte (w .machine .pc)) (byte (w .machine .pc + 1))
 
   pub stepped-ready : (keys random : ℕ) → stepRefusal w ≡ 0 → Ready (stepped keys random w)
   unfolding stepped

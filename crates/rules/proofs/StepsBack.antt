@@ -11,6 +11,7 @@ use borrow.Author.Tests.{ltb-true, ltb-false, eqb-false, ne-eqb}
 use Rattle.rules.specs.declared.Change.{Change}
 use Rattle.rules.specs.declared.Change.the-variants.{Nothing}
 use Rattle.rules.specs.Number.{pick, unless}
+use Rattle.rules.specs.State.{chosen}
 use Rattle.rules.specs.Memory.{part, over}
 use Rattle.rules.specs.Record.{recordOf, damaged}
 use Rattle.rules.specs.Step.{Board}
@@ -25,6 +26,7 @@ use Rattle.rules.proofs.Good.{GoodBoard}
 use Rattle.rules.proofs.Parts.{part-over-same, part-over-before, part-over-after}
 use Rattle.rules.proofs.Undo.{Restores, undo}
 use Rattle.rules.proofs.Follow.{Follows, tick-follows}
+use Rattle.rules.proofs.Still.{step-chosen}
 use Rattle.rules.proofs.Ready.{Ready, start-ready, ready-fits, ready-soundly, record-sized, as-long, acted-ready}
 use Rattle.rules.proofs.Ready.{stepped-follows, before-below}
 
@@ -121,8 +123,9 @@ module _ (r : ℕ) (w : World) (p : Past) (hold : Holds r w p) where
 
   -- an accepted step or tick
   act-holds : (f : Board → Board) (c : Change) → Follows c (boardOf w) (f (boardOf w))
+      → chosen ((f (boardOf w)) .machine) ≡ chosen (w .machine)
       → Holds r (acted c (f (boardOf w)) w) (record { boards = added f (p .boards); kept = min r (p .kept + 1) })
-  act-holds f c a =
+  act-holds f c a kept =
       record {
         earlier = b ∷ hold .earlier;
         last = ap (added f) (hold .last);
@@ -161,7 +164,7 @@ module _ (r : ℕ) (w : World) (p : Past) (hold : Holds r w p) where
       restores : Restores (part (written c w) (288 * n) 288) (f b) b
       restores =
           rw (part-over-same (w .history) kept-record (288 * n) 288 (omega arith) sized)
-          (undo c b (f b) (ready .good) (a .good) (a .undoable))
+          (undo c b (f b) (ready .good) (a .good) (a .undoable) kept)
 
       -- the new record in front of the old ones, of which it overwrote none
       linked : (k : ℕ) → k < r → Chain (w .history) r n k b (hold .earlier) → Longer (suc k)
@@ -226,9 +229,9 @@ module _ (r : ℕ) (w : World) (p : Past) (hold : Holds r w p) where
   unfolding step tick back stepped ticked
   move-holds (aStep keys random) =
       settled (stepRefusal w) (stepped keys random w) (noted r (aStep keys random) p)
-      λ e. act-holds (stepBoard keys random) _ (stepped-follows w ready keys random e)
+      λ e. act-holds (stepBoard keys random) _ (stepped-follows w ready keys random e) (step-chosen keys random (boardOf w))
   move-holds aTick =
-      settled (tickRefusal w) (ticked w) (noted r aTick p) (λ e. act-holds tickBoard Nothing (tick-follows (boardOf w) (ready .good)))
+      settled (tickRefusal w) (ticked w) (noted r aTick p) (λ e. act-holds tickBoard Nothing (tick-follows (boardOf w) (ready .good)) refl)
   move-holds aBack = settled (backRefusal w) (undone (lastRecord w) w) (noted r aBack p) back-holds
 
 back-number : (w : World) → (back w) .refusal ≡ backRefusal w

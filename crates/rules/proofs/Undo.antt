@@ -14,7 +14,7 @@ use Rattle.rules.specs.declared.Machine.{Machine}
 use Rattle.rules.specs.declared.Change.{Change}
 use Rattle.rules.specs.declared.Change.the-variants.{Nothing, InMemory, InPicture}
 use Rattle.rules.specs.Number.{pick}
-use Rattle.rules.specs.State.{heldSound}
+use Rattle.rules.specs.State.{chosen, heldSound}
 use Rattle.rules.specs.Memory.{part}
 use Rattle.rules.specs.Record.{start, count, allowed, old, heldByte, lastReturn, recordOf, byteAt, wordAt, stackAt, waitAt}
 use Rattle.rules.specs.Record.{known, changeSound, depthSound, keySound, damaged, machineAt, memoryAt, pictureAt, changeAt}
@@ -134,8 +134,9 @@ module _ (c : Change) (b : Board) (g : GoodBoard b) (fits : Fits c) where
   written-reads : Reads (recordFor c b) (b .machine) c (old c (b .memory) (b .picture))
   written-reads = let (s, n) = fits-start c fits in reads (b .machine) c _ (g .machine) s n (old-length c b g fits)
 
-pub undo : (c : Change) (b b′ : Board) → GoodBoard b → GoodBoard b′ → Undoable c b b′ → Restores (recordFor c b) b′ b
-undo c b b′ g g′ u =
+pub undo : (c : Change) (b b′ : Board) → GoodBoard b → GoodBoard b′ → Undoable c b b′ → chosen (b′ .machine) ≡ chosen (b .machine)
+    → Restores (recordFor c b) b′ b
+undo c b b′ g g′ u kept =
     record {
       machine = λ i. record {
         v = read .v i;
@@ -145,6 +146,7 @@ undo c b b′ g g′ u =
         depth = read .depth i;
         timers = record { delay = read .delay i; tone = read .tone i };
         wait = wait i;
+        edition = kept i .edition;
       };
       memory = rw (read .change) (memory-back r c b b′ (u .only) (read .bytes));
       picture = rw (read .change) (picture-back r c b b′ (u .only) (read .bytes));

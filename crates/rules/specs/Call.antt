@@ -39,9 +39,9 @@ acted c b w = world (b .machine) (grown (places (w .history)) (w .trail)) (b .me
 
 -- ---- a step
 
--- the instruction is the byte at PC, then the byte at PC + 1
+-- the instruction is the byte at PC, then the byte at PC + 1; only here is the edition looked at
 abbrev pub opAt : Board → Op
-opAt b = decode (getD (b .memory) (b .machine .pc) 0) (getD (b .memory) (b .machine .pc + 1) 0)
+opAt b = decode (b .machine .edition) (getD (b .memory) (b .machine .pc) 0) (getD (b .memory) (b .machine .pc + 1) 0)
 
 abbrev pub stepBoard : ℕ → ℕ → Board → Board
 stepBoard keys random b = after (opAt b) keys random (b .machine) (b .memory) (b .picture)

@@ -1,9 +1,13 @@
--- The worked cases of document 01 that are marked P, and those of request Q-1: a table, and one statement that each of them holds.
-use mathlib.Core.Bool.{Bool, true, _&&_}
+-- The worked cases of document 01 that are marked P, and those of the requests Q-1 and Q-5: a table, and one statement that each of
+-- them holds.
+use mathlib.Core.Bool.{Bool, true, false, _&&_}
 use mathlib.Core.List.{List, [], _∷_, _++_}
 use Prim.Native.Nat.{ℕ}
 use lib.ListN.{length, replicate}
 use lib.Dec.{T, eqb}
+use Rattle.rules.specs.declared.Edition.{Edition}
+use Rattle.rules.specs.declared.Edition.the-variants.{First, Second}
+use Rattle.rules.specs.declared.Machine.{Machine}
 use Rattle.rules.specs.Number.{word, same}
 use Rattle.rules.specs.State.{memorySize, pictureSize, startAddress, fresh, reg, withReg, withI}
 use Rattle.rules.specs.Instruction.{decode}
@@ -15,12 +19,14 @@ use Rattle.rules.specs.World.{World, world, boardOf}
 use Rattle.rules.specs.Load.{freshTrail}
 use Rattle.rules.specs.Call.{step, stepRefusal, stepped}
 
--- a fact of a board: VX is a byte, I is an address, memory has bytes from an address on, the picture is those bytes
+-- a fact of a board: VX is a byte, I is an address, memory has bytes from an address on, the picture is those bytes, the edition is
+-- the second
 data Fact : Type 0 where
   v : ℕ → ℕ → Fact
   i : ℕ → Fact
   bytes : ℕ → List ℕ → Fact
   shows : List ℕ → Fact
+  second : Fact
 
 -- a step: the instruction, the refusal or 0, what holds before it, and what holds after it
 data Case : Type 0 where
@@ -49,18 +55,62 @@ table =
     ∷ case 0xF155 6 (i 0x0FFF ∷ []) []
     ∷ case 0xD012 0 (v 0x0 0x3F ∷ v 0x1 0x1F ∷ v 0xF 0x07 ∷ i 0x0300 ∷ bytes 0x0300 (0xFF ∷ 0xFF ∷ []) ∷ [])
     (shows lastSpot ∷ v 0xF 0x00 ∷ [])
+    -- the second edition's four: with a flag before them, with X = F, with X = Y
+    ∷ case 0x8013 0 (second ∷ v 0x0 0xF0 ∷ v 0x1 0x3C ∷ v 0xF 0x07 ∷ []) (v 0x0 0xCC ∷ v 0x1 0x3C ∷ v 0xF 0x00 ∷ second ∷ [])
+    ∷ case 0x8F13 0 (second ∷ v 0xF 0xF0 ∷ v 0x1 0x3C ∷ []) (v 0xF 0x00 ∷ [])
+    ∷ case 0x8003 0 (second ∷ v 0x0 0xF0 ∷ v 0xF 0x07 ∷ []) (v 0x0 0x00 ∷ v 0xF 0x00 ∷ [])
+    ∷ case 0x8016 0 (second ∷ v 0x0 0x55 ∷ v 0x1 0x01 ∷ []) (v 0x0 0x00 ∷ v 0x1 0x01 ∷ v 0xF 0x01 ∷ [])
+    ∷ case 0x8016 0 (second ∷ v 0x0 0x55 ∷ v 0x1 0xFE ∷ v 0xF 0x07 ∷ []) (v 0x0 0x7F ∷ v 0x1 0xFE ∷ v 0xF 0x00 ∷ [])
+    ∷ case 0x8F16 0 (second ∷ v 0x1 0x05 ∷ []) (v 0xF 0x01 ∷ [])
+    ∷ case 0x8006 0 (second ∷ v 0x0 0x03 ∷ []) (v 0x0 0x01 ∷ v 0xF 0x01 ∷ [])
+    ∷ case 0x8017 0 (second ∷ v 0x0 0x05 ∷ v 0x1 0x05 ∷ []) (v 0x0 0x00 ∷ v 0xF 0x01 ∷ [])
+    ∷ case 0x8017 0 (second ∷ v 0x0 0x05 ∷ v 0x1 0x06 ∷ []) (v 0x0 0x01 ∷ v 0xF 0x01 ∷ [])
+    ∷ case 0x8017 0 (second ∷ v 0x0 0x05 ∷ v 0x1 0x04 ∷ v 0xF 0x07 ∷ []) (v 0x0 0xFF ∷ v 0x1 0x04 ∷ v 0xF 0x00 ∷ [])
+    ∷ case 0x8F17 0 (second ∷ v 0xF 0x05 ∷ v 0x1 0x04 ∷ []) (v 0xF 0x00 ∷ [])
+    ∷ case 0x8007 0 (second ∷ v 0x0 0x05 ∷ []) (v 0x0 0x00 ∷ v 0xF 0x01 ∷ [])
+    ∷ case 0x801E 0 (second ∷ v 0x0 0x55 ∷ v 0x1 0x80 ∷ []) (v 0x0 0x00 ∷ v 0x1 0x80 ∷ v 0xF 0x01 ∷ [])
+    ∷ case 0x801E 0 (second ∷ v 0x0 0x55 ∷ v 0x1 0x7F ∷ v 0xF 0x07 ∷ []) (v 0x0 0xFE ∷ v 0x1 0x7F ∷ v 0xF 0x00 ∷ [])
+    ∷ case 0x8F1E 0 (second ∷ v 0x1 0x81 ∷ []) (v 0xF 0x01 ∷ [])
+    ∷ case 0x800E 0 (second ∷ v 0x0 0x81 ∷ []) (v 0x0 0x02 ∷ v 0xF 0x01 ∷ [])
+    -- what both list, and what neither lists
+    ∷ case 0x8014 0 (second ∷ v 0x0 0xF0 ∷ v 0x1 0x20 ∷ []) (v 0x0 0x10 ∷ v 0xF 0x01 ∷ [])
+    ∷ case 0x8018 2 (second ∷ []) []
+    ∷ case 0x8018 2 [] []
+    -- and the same bytes in the first
+    ∷ case 0x8013 2 (v 0x0 0xF0 ∷ v 0x1 0x3C ∷ []) (v 0x0 0xF0 ∷ v 0x1 0x3C ∷ [])
+    ∷ case 0x8016 2 (v 0x1 0x01 ∷ []) (v 0x1 0x01 ∷ [])
+    ∷ case 0x8017 2 (v 0x1 0x06 ∷ []) (v 0x1 0x06 ∷ [])
+    ∷ case 0x801E 2 (v 0x1 0x80 ∷ []) (v 0x1 0x80 ∷ [])
     ∷ []
 
 -- ---- how a row is read
 
--- the board of a load, with nothing in memory but the instruction
+-- the board of a load in the first edition, with nothing in memory but the instruction
 abbrev bare : ℕ → Board
 bare op =
     record {
-      machine = fresh;
+      machine = fresh First;
       memory = over (replicate memorySize 0) startAddress (word op) 2;
       picture = replicate pictureSize 0;
     }
+
+-- a state in another edition, and whether it is the second
+abbrev withEdition : Edition → Machine → Machine
+withEdition e m =
+    record {
+      v = m .v;
+      i = m .i;
+      pc = m .pc;
+      stack = m .stack;
+      depth = m .depth;
+      timers = m .timers;
+      wait = m .wait;
+      edition = e;
+    }
+
+abbrev isSecond : Edition → Bool
+isSecond First = false
+isSecond Second = true
 
 -- a board with a fact made true, and whether a fact is true of it
 abbrev given : Fact → Board → Board
@@ -68,12 +118,14 @@ given (v x n) b = record { machine = withReg x n (b .machine); memory = b .memor
 given (i a) b = record { machine = withI a (b .machine); memory = b .memory; picture = b .picture }
 given (bytes a l) b = record { machine = b .machine; memory = over (b .memory) a l (length l); picture = b .picture }
 given (shows l) b = record { machine = b .machine; memory = b .memory; picture = l }
+given second b = record { machine = withEdition Second (b .machine); memory = b .memory; picture = b .picture }
 
 abbrev isTrue : Fact → Board → Bool
 isTrue (v x n) b = eqb (reg (b .machine) x) n
 isTrue (i a) b = eqb (b .machine .i) a
 isTrue (bytes a l) b = same (part (b .memory) a (length l)) l
 isTrue (shows l) b = same (b .picture) l
+isTrue second b = isSecond (b .machine .edition)
 
 abbrev allGiven : List Fact → Board → Board
 allGiven [] b = b

@@ -1,4 +1,4 @@
--- The rules of document 01 as definitions, and what is claimed of them: Cases, Past and Promise. Read them in this order; the
+-- The rules of document 01 as definitions, and what is claimed of them: Cases, Editions, Past and Promise. Read them in this order; the
 -- proofs are in proofs/.
 pub mod Number
 pub mod Refusal
@@ -16,5 +16,6 @@ pub mod Run
 pub mod Dark
 pub mod Cases
 pub mod Typed
+pub mod Editions
 pub mod Past
 pub mod Promise

@@ -1,9 +1,10 @@
--- A load: it takes a program and the three buffers, and no state or numbers.
+-- A load: it takes an edition, a program and the three buffers, and no state or numbers.
 use mathlib.Core.Bool.{_&&_}
 use mathlib.Core.List.{List, [], _∷_, _++_}
 use Prim.Native.Nat.{ℕ, _-_}
 use lib.ListN.{length, replicate}
 use lib.Dec.{leb}
+use Rattle.rules.specs.declared.Edition.{Edition}
 use Rattle.rules.specs.declared.Refusal.the-variants.{ProgramLength, BufferLength}
 use Rattle.rules.specs.declared.Trail.{Trail}
 use Rattle.rules.specs.Number.{unless}
@@ -39,11 +40,11 @@ loadedMemory program = digits ++ replicate (startAddress - 80) 0 ++ program ++ r
 abbrev pub freshTrail : Trail
 freshTrail = record { next = 0; kept = 0 }
 
-abbrev pub freshWorld : List ℕ → List ℕ → List ℕ → World
-freshWorld memory picture history = world fresh freshTrail memory picture history
+abbrev pub freshWorld : Edition → List ℕ → List ℕ → List ℕ → World
+freshWorld edition memory picture history = world (fresh edition) freshTrail memory picture history
 
-abbrev pub loaded : List ℕ → List ℕ → World
-loaded program history = freshWorld (loadedMemory program) (replicate pictureSize 0) (replicate (length history) 0)
+abbrev pub loaded : Edition → List ℕ → List ℕ → World
+loaded edition program history = freshWorld edition (loadedMemory program) (replicate pictureSize 0) (replicate (length history) 0)
 
 -- 9, then 8
 unfoldable pub loadRefusal : List ℕ → List ℕ → List ℕ → List ℕ → ℕ
@@ -52,6 +53,6 @@ loadRefusal program memory picture history =
     (unless (leb 1 (length program) && leb (length program) (memorySize - startAddress)) (numberOf ProgramLength)
     0)
 
-unfoldable pub load : List ℕ → List ℕ → List ℕ → List ℕ → Answer
-load program memory picture history =
-    answered (loadRefusal program memory picture history) (loaded program history) (freshWorld memory picture history)
+unfoldable pub load : Edition → List ℕ → List ℕ → List ℕ → List ℕ → Answer
+load edition program memory picture history =
+    answered (loadRefusal program memory picture history) (loaded edition program history) (freshWorld edition memory picture history)

@@ -22,6 +22,10 @@ word n = n / 256 % 256 ∷ n % 256 ∷ []
 abbrev pub bit : ℕ → ℕ → ℕ
 bit b n = n / 2 ^ b % 2
 
+-- and whether it is 1
+abbrev pub isOne : ℕ → ℕ → Bool
+isOne b n = eqb (bit b n) 1
+
 -- whether two lists are equal
 abbrev pub same : List ℕ → List ℕ → Bool
 same [] [] = true

@@ -5,6 +5,7 @@ use mathlib.Core.Bool.{true}
 use mathlib.Core.List.{List, [], _∷_}
 use Prim.Native.Nat.{ℕ, zero, suc, _+_, _-_, _<_, min}
 use lib.Dec.{eqb}
+use Rattle.rules.specs.declared.Edition.{Edition}
 use Rattle.rules.specs.declared.Refusal.the-variants.{NothingKept}
 use Rattle.rules.specs.Number.{pick}
 use Rattle.rules.specs.Refusal.{numberOf}
@@ -98,5 +99,5 @@ RunsPlay =
 -- an accepted load gives such a start
 abbrev pub LoadStarts : Type 0
 LoadStarts =
-    (program memory picture history : List ℕ) → Below 256 program → (load program memory picture history) .refusal ≡ 0
-    → let w = (load program memory picture history) .world in TypedBoard (boardOf w) × Start w
+    (edition : Edition) (program memory picture history : List ℕ) → Below 256 program
+    → let a = load edition program memory picture history in a .refusal ≡ 0 → TypedBoard (boardOf (a .world)) × Start (a .world)

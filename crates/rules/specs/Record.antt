@@ -150,6 +150,7 @@ waitAt r = pick (eqb (byteAt r atHeld) 0xFF) Idle (Held (byteAt r atHeld))
 abbrev pub stackAt : List ℕ → List ℕ → List ℕ
 stackAt r stack = take (byteAt r atDepth) (set stack (byteAt r atDepth - 1) (wordAt r atLast)) ++ replicate (stackSize - byteAt r atDepth) 0
 
+-- all but the edition, which a load chose and of which a record keeps nothing
 abbrev pub machineAt : List ℕ → Machine → Machine
 machineAt r m =
     record {
@@ -160,6 +161,7 @@ machineAt r m =
       depth = byteAt r atDepth;
       timers = record { delay = byteAt r atDelay; tone = byteAt r atTone };
       wait = waitAt r;
+      edition = m .edition;
     }
 
 abbrev pub memoryAt : Change → List ℕ → List ℕ → List ℕ

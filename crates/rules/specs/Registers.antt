@@ -1,17 +1,17 @@
 -- What each instruction does to the state, as far as memory and picture play no part.
 use mathlib.Core.Bool.{Bool, false}
-use Prim.Native.Nat.{ℕ, zero, suc, _+_, _-_, _*_, _%_}
+use Prim.Native.Nat.{ℕ, zero, suc, _+_, _-_, _*_, _/_, _%_}
 use lib.ListN.{getD, set}
 use lib.Dec.{eqb, ltb, leb}
-use lib.Bits.{bitAnd, bitOr}
+use lib.Bits.{bitAnd, bitOr, bitXor}
 use Rattle.rules.specs.declared.Machine.{Machine}
 use Rattle.rules.specs.declared.Wait.{Wait}
 use Rattle.rules.specs.declared.Wait.the-variants.{Idle, Held}
 use Rattle.rules.specs.declared.Simple.{Simple}
 use Rattle.rules.specs.declared.Simple.the-variants.{Jump, JumpFrom, SkipEqual, SkipDiffers, SkipSame, SkipOther, SkipDown, SkipUp}
-use Rattle.rules.specs.declared.Simple.the-variants.{Put, Add, Chance, Copy, Or, And, Plus, Minus}
+use Rattle.rules.specs.declared.Simple.the-variants.{Put, Add, Chance, Copy, Or, And, Plus, Minus, Xor, Halve, MinusFrom, Double}
 use Rattle.rules.specs.declared.Simple.the-variants.{Index, AddIndex, Digit, FromDelay, ToDelay, ToTone}
-use Rattle.rules.specs.Number.{pick, bit}
+use Rattle.rules.specs.Number.{pick, isOne}
 use Rattle.rules.specs.State.{reg, withReg, withI, withPc, withTimers, withStack, withWait}
 
 -- PC past this instruction; past the next one too where the test holds
@@ -31,7 +31,7 @@ flagged x b f m = withReg 0xF (pick f 1 0) (withReg x b m)
 -- ---- keys
 
 abbrev pub down : ℕ → ℕ → Bool
-down keys k = eqb (bit k keys) 1
+down keys k = isOne k keys
 
 -- the lowest key that is down, of k and the `left` keys after it, of which one is
 abbrev pub lowestFrom : ℕ → ℕ → ℕ → ℕ
@@ -62,6 +62,10 @@ simple (Or x y) keys random m = onward (flagged x (bitOr (reg m x) (reg m y)) fa
 simple (And x y) keys random m = onward (flagged x (bitAnd (reg m x) (reg m y)) false m)
 simple (Plus x y) keys random m = onward (flagged x ((reg m x + reg m y) % 256) (ltb 255 (reg m x + reg m y)) m)
 simple (Minus x y) keys random m = onward (flagged x ((reg m x + 256 - reg m y) % 256) (leb (reg m y) (reg m x)) m)
+simple (Xor x y) keys random m = onward (flagged x (bitXor (reg m x) (reg m y)) false m)
+simple (Halve x y) keys random m = onward (flagged x (reg m y / 2) (isOne 0 (reg m y)) m)
+simple (MinusFrom x y) keys random m = onward (flagged x ((reg m y + 256 - reg m x) % 256) (leb (reg m x) (reg m y)) m)
+simple (Double x y) keys random m = onward (flagged x (2 * reg m y % 256) (isOne 7 (reg m y)) m)
 simple (Index a) keys random m = onward (withI a m)
 simple (AddIndex x) keys random m = onward (withI ((m .i + reg m x) % 65536) m)
 simple (Digit x) keys random m = onward (withI (5 * (reg m x % 16)) m)

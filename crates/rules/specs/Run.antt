@@ -95,3 +95,12 @@ unfoldable pub play : List ℕ → List ℕ → List ℕ → World → Answer
 play moves keys randoms w =
     let refusal = playRefusal moves keys randoms w in
     pick (eqb refusal 0) (playFrom (movesOf moves keys randoms) (unrefused w)) (record { refusal = refusal; world = w })
+
+-- ---- what is claimed of each call that takes a state
+
+pub record EachCall (P : (World → Answer) → Type 0) : Type 0 where
+  pub step : (keys random : ℕ) → P (step keys random)
+  pub tick : P tick
+  pub back : P back
+  pub run : (ticks keys randoms : List ℕ) → P (λ w. (run ticks keys randoms w) .answer)
+  pub play : (moves keys randoms : List ℕ) → P (play moves keys randoms)

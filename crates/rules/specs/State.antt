@@ -4,6 +4,7 @@ use mathlib.Core.List.{List, [], _∷_}
 use Prim.Native.Nat.{ℕ, _+_, _%_}
 use lib.ListN.{getD, set, drop, replicate}
 use lib.Dec.{eqb, leb}
+use Rattle.rules.specs.declared.Edition.{Edition}
 use Rattle.rules.specs.declared.Machine.{Machine}
 use Rattle.rules.specs.declared.Timers.{Timers}
 use Rattle.rules.specs.declared.Wait.{Wait}
@@ -26,22 +27,28 @@ startAddress = 0x0200
 -- ---- a state with one part changed
 
 abbrev pub withV : List ℕ → Machine → Machine
-withV v m = record { v = v; i = m .i; pc = m .pc; stack = m .stack; depth = m .depth; timers = m .timers; wait = m .wait }
+withV v m =
+    record { v = v; i = m .i; pc = m .pc; stack = m .stack; depth = m .depth; timers = m .timers; wait = m .wait; edition = m .edition }
 
 abbrev pub withI : ℕ → Machine → Machine
-withI i m = record { v = m .v; i = i; pc = m .pc; stack = m .stack; depth = m .depth; timers = m .timers; wait = m .wait }
+withI i m =
+    record { v = m .v; i = i; pc = m .pc; stack = m .stack; depth = m .depth; timers = m .timers; wait = m .wait; edition = m .edition }
 
 abbrev pub withPc : ℕ → Machine → Machine
-withPc pc m = record { v = m .v; i = m .i; pc = pc; stack = m .stack; depth = m .depth; timers = m .timers; wait = m .wait }
+withPc pc m =
+    record { v = m .v; i = m .i; pc = pc; stack = m .stack; depth = m .depth; timers = m .timers; wait = m .wait; edition = m .edition }
 
 abbrev pub withStack : List ℕ → ℕ → Machine → Machine
-withStack s d m = record { v = m .v; i = m .i; pc = m .pc; stack = s; depth = d; timers = m .timers; wait = m .wait }
+withStack s d m =
+    record { v = m .v; i = m .i; pc = m .pc; stack = s; depth = d; timers = m .timers; wait = m .wait; edition = m .edition }
 
 abbrev pub withTimers : Timers → Machine → Machine
-withTimers t m = record { v = m .v; i = m .i; pc = m .pc; stack = m .stack; depth = m .depth; timers = t; wait = m .wait }
+withTimers t m =
+    record { v = m .v; i = m .i; pc = m .pc; stack = m .stack; depth = m .depth; timers = t; wait = m .wait; edition = m .edition }
 
 abbrev pub withWait : Wait → Machine → Machine
-withWait w m = record { v = m .v; i = m .i; pc = m .pc; stack = m .stack; depth = m .depth; timers = m .timers; wait = w }
+withWait w m =
+    record { v = m .v; i = m .i; pc = m .pc; stack = m .stack; depth = m .depth; timers = m .timers; wait = w; edition = m .edition }
 
 -- VX, and the state with VX changed; a register's number is the low four bits
 abbrev pub reg : Machine → ℕ → ℕ
@@ -56,8 +63,8 @@ upTo x = x % 16 + 1
 
 -- ---- the state after a load, and the sound states
 
-abbrev pub fresh : Machine
-fresh =
+abbrev pub fresh : Edition → Machine
+fresh edition =
     record {
       v = replicate 16 0;
       i = 0;
@@ -66,7 +73,15 @@ fresh =
       depth = 0;
       timers = record { delay = 0; tone = 0 };
       wait = Idle;
+      edition = edition;
     }
+
+-- what a load chooses, and nothing else changes
+pub record Chosen : Type 0 where
+  pub edition : Edition
+
+abbrev pub chosen : Machine → Chosen
+chosen m = record { edition = m .edition }
 
 -- each of them is 0
 abbrev pub zeros : List ℕ → Bool

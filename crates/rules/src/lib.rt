@@ -14,7 +14,13 @@ pub enum Wait {
     Held(u8),
 }
 
-// The machine's state.
+// The edition of the instruction set: the second has four operations more.
+pub enum Edition {
+    First,
+    Second,
+}
+
+// The machine's state, with the edition that a load chose.
 pub struct Machine {
     pub v: [u8; 16],
     pub i: u16,
@@ -23,6 +29,7 @@ pub struct Machine {
     pub depth: u8,
     pub timers: Timers,
     pub wait: Wait,
+    pub edition: Edition,
 }
 
 impl Machine {
@@ -38,9 +45,9 @@ impl Machine {
 
     pub const TOO_LONG: usize = Machine::MEMORY - Machine::START + 1;
 
-    // The state after a load.
-    pub fn fresh() -> Machine
-        ensures { λ r. ⌜ r ≡ state.fresh ⌝ }
+    // The state after a load of that edition.
+    pub fn fresh(edition: Edition) -> Machine
+        ensures { λ r. ⌜ r ≡ state.fresh edition ⌝ }
     {
         Machine {
             v: [0; 16],
@@ -50,6 +57,7 @@ impl Machine {
             depth: 0,
             timers: Timers { delay: 0, tone: 0 },
             wait: Wait::Idle,
+            edition: edition,
         }
     }
 }
@@ -85,6 +93,10 @@ pub enum Simple {
     And(u8, u8),
     Plus(u8, u8),
     Minus(u8, u8),
+    Xor(u8, u8),
+    Halve(u8, u8),
+    MinusFrom(u8, u8),
+    Double(u8, u8),
     Index(u16),
     AddIndex(u8),
     Digit(u8),

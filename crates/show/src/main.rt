@@ -1,15 +1,17 @@
 // Reads a program from standard input, runs it for 64 steps with no ticks, no keys and random byte 00, as the trace does, and shows
-// its picture in block characters, two rows of spots to a line. The last line says why it stopped, and where.
+// its picture in block characters, two rows of spots to a line. It is loaded for the second edition, which runs what the first runs and four
+// operations more. The last line says why it stopped, and where.
 mod blocks;
 
 use parts::Ran;
+use rules::Edition;
 use rules::Machine;
 
 // A program loaded and run. A refused load is a run of no step.
 fn run(program: &[u8], picture: &mut [u8]) -> Ran {
     let mut memory = [0u8; Machine::MEMORY];
     let mut history = [0u8; history::PLACE];
-    let start = chip8::load(program, &mut memory, picture, &mut history);
+    let start = chip8::load(Edition::Second, program, &mut memory, picture, &mut history);
     let outcome = start.outcome;
     let machine = start.machine;
     let trail = start.trail;

@@ -15,6 +15,7 @@ use Rattle.rules.specs.Promise.{Gives}
 use Rattle.io.specs.Counts.{Counts}
 use Rattle.text.specs.Put.{Put}
 use Rattle.text.proofs.Joined.{kept, so-far}
+use Rattle.rules.specs.declared.Edition.the-variants.{First}
 use Rattle.rules.specs.Load.{load}
 use Rattle.line.specs.Line.{header, stopLine}
 use Rattle.trace.specs.Trace.{lineOf, stepsFrom, blankMemory, blankPicture, blankHistory, traceOf}
@@ -61,7 +62,7 @@ pub counted : (l : List ℕ) (r : ℕ) → r ≤ length l → Counts r l
 counted l r h = (h, sym (length-take-le r l h))
 
 abbrev start : List ℕ → Answer
-start program = load program blankMemory blankPicture blankHistory
+start program = load First program blankMemory blankPicture blankHistory
 
 module _ (program : List ℕ) {out out′ : List ℕ} {k : ℕ} (p : Put header out 0 out′ k) where
   pub load-refused : {out″ : List ℕ} {r n : ℕ} {w : World} → (start program) .refusal ≡ n → (n ≡ 0 → ⊥) → (start program) .world ≡ w → Put (stopLine n (w .machine .pc)) out′ k out″ r

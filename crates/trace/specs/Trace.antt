@@ -3,6 +3,7 @@ use mathlib.Core.List.{List, _++_}
 use Prim.Native.Nat.{ℕ, zero, suc, _+_, _*_}
 use lib.ListN.{getD, replicate}
 use lib.Dec.{eqb}
+use Rattle.rules.specs.declared.Edition.the-variants.{First}
 use Rattle.rules.specs.Number.{pick}
 use Rattle.rules.specs.State.{memorySize, pictureSize, reg}
 use Rattle.rules.specs.Record.{placeSize}
@@ -41,5 +42,5 @@ blankHistory = replicate placeSize 0
 
 unfoldable pub traceOf : List ℕ → List ℕ
 traceOf program =
-    let a = load program blankMemory blankPicture blankHistory in
+    let a = load First program blankMemory blankPicture blankHistory in
     header ++ pick (eqb (a .refusal) 0) (stepsFrom 64 1 (a .world)) (stopLine (a .refusal) (a .world .machine .pc))

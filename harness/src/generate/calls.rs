@@ -1,6 +1,6 @@
 //! Single calls with inputs of every kind.
 
-use super::instructions;
+use super::{hosts, instructions};
 use crate::buffers::Part;
 use crate::case::Call;
 use crate::engine::ANSWER;
@@ -62,6 +62,10 @@ pub fn load(random: &Random) -> Call {
     };
     Call::Load {
         program: random.bytes(length),
+        edition: match random.once_in(5) {
+            true => hosts::no_edition(random),
+            false => hosts::edition(random),
+        },
     }
 }
 

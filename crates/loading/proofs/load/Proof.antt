@@ -9,17 +9,17 @@ use Rattle.loading.proofs.load.Tie as tie
 returns : tie.Need-returns
 returns c =
     let refused = c .enum-told2 .given .1 in
-    rw (refused, c .before .before .before .before .before .before .fresh .ensures) (load-refused _ _ _ _ _ (rw refused at (c .before .before .judged .ensures)))
+    rw (refused, c .before .before .before .before .before .before .fresh .ensures) (load-refused _ _ _ _ _ _ (rw refused at (c .before .before .judged .ensures)))
 
 lay-out-requires : tie.Need-lay-out-requires
 lay-out-requires c κs =
     let room = load-room _ _ _ _ (sym (c .before .before .before .judged .ensures) ∙ ap number (c .before .enum-told .given .1)) in
-    (room .sizes .memory, room .short)
+    (room .memory, room .short)
 
 returns-2 : tie.Need-returns-2
 returns-2 c =
     rw (c .before .before .before .before .before .before .before .before .before .before .before .before .before .before .before .before .before .before .fresh .ensures)
-    (load-gives _ _ _ _ (sym (c .before .before .before .before .before .before .before .before .before .before .before .before .before .before .judged .ensures) ∙ ap number (c .before .before .before .before .before .before .before .before .before .before .before .before .enum-told .given .1)) _ _ _ (c .before .before .before .before .before .before .before .before .before .before .lay-out .ensures) (c .before .before .before .before .before .before .clear .ensures) (c .before .before .clear2 .ensures))
+    (load-gives _ _ _ _ _ (sym (c .before .before .before .before .before .before .before .before .before .before .before .before .before .before .judged .ensures) ∙ ap number (c .before .before .before .before .before .before .before .before .before .before .before .before .enum-told .given .1)) _ _ _ (c .before .before .before .before .before .before .before .before .before .before .lay-out .ensures) (c .before .before .before .before .before .before .clear .ensures) (c .before .before .clear2 .ensures))
 
 pub load-spec : {M : Type 1} → statement M
 load-spec =
