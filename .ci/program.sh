@@ -1,11 +1,9 @@
+# shellcheck shell=sh disable=SC2154
 # Read by ./trace and ./panel. Runs a program of the house on a CHIP-8 program: the proved one where it is built, and else the same
 # source without proof. They set root, the folder of the house, and program, the crate to run; introduce says what is shown where
 # no CHIP-8 program is named, and default is the one that is shown then.
-script=${0##*/}
 here=$(pwd)
-
-say() { printf '%s\n' "$*" >&2; }
-die() { say "$script: $*"; exit 2; }
+. "$root/.ci/proved.sh"
 
 prove=no
 if [ "${1:-}" = --prove ]; then prove=yes; shift; fi
@@ -34,11 +32,7 @@ fi
 
 # ---- the toolchain
 
-rt=$(command -v rt 2>/dev/null) || rt=${RATTLE_HOME:+$RATTLE_HOME/bin/rt}
-[ -n "$rt" ] && [ -x "$rt" ] || die "the Rattle toolchain is not here: its command, rt, must be on the PATH, or RATTLE_HOME be the folder of the kit"
-kit=$(dirname "$("$rt" doc)")
-kit=${RATTLE_HOME:-$(cd "$kit/.." && pwd)}
-tools=$kit/on/$(uname -m)/toolchain
+find_toolchain
 
 # ---- the program, proved or not
 
@@ -58,30 +52,6 @@ current() {
     done
 }
 
-# Programs are for x86-64. On another machine the kit brings an emulator, and else one must be installed.
-find_emulator() {
-    emulator=''
-    if [ -x "$tools/bin/qemu-x86_64" ]; then
-        emulator=$tools/bin/qemu-x86_64
-    elif [ "$(uname -m)" != x86_64 ]; then
-        if ! command -v qemu-x86_64 >/dev/null 2>&1 && [ "$(id -u)" = 0 ] && command -v apt-get >/dev/null 2>&1; then
-            say "$script: installing qemu-user, since programs are for x86-64 and this machine is $(uname -m)"
-            apt-get install -y qemu-user >/dev/null 2>&1
-        fi
-        emulator=$(command -v qemu-x86_64) || die "programs are for x86-64 and this machine is $(uname -m): install qemu-user, which has qemu-x86_64"
-    fi
-}
-
-run_proved() {
-    find_emulator
-    loader=$tools/lib/ld-linux-x86-64.so.2
-    if [ -f "$loader" ]; then
-        ${emulator:+"$emulator"} "$loader" --library-path "$tools/lib" "$built" <"$file"
-    else
-        ${emulator:+"$emulator"} "$built" <"$file"
-    fi
-}
-
 # A byte that rt names in hex, as \xE2, in octal, which every printf knows.
 octal() {
     awk 'function digit(c) { return index("0123456789abcdef", c) - 1 }
@@ -99,9 +69,9 @@ octal() {
 run_unproved() {
     say "$script: the proved program is not built yet, so this runs the same source without proof. ./$script --prove proves it first"
     trial=$work/crates/$program
-    mkdir "$work/crates" && cp "$root/crates.txt" "$work/" || die "cannot copy the sources"
+    { mkdir "$work/crates" && cp "$root/crates.txt" "$work/"; } || die "cannot copy the sources"
     for crate in "$root"/crates/*; do [ "${crate##*/}" = "$program" ] || ln -s "$crate" "$work/crates/"; done
-    mkdir "$trial" && cp -R "$root/crates/$program/src" "$trial/" && cp "$file" "$trial/stdin" || die "cannot copy the sources"
+    { mkdir "$trial" && cp -R "$root/crates/$program/src" "$trial/" && cp "$file" "$trial/stdin"; } || die "cannot copy the sources"
     : >"$trial/stdout"
     until (cd "$work" && "$rt" try "$program") >"$work/said" 2>&1; do
         more=$(sed -n 's/^on standard output, at byte [0-9]*, expected "", found "\([^"]*\)".*/\1/p' "$work/said" | head -n 1)
@@ -116,4 +86,4 @@ if [ "$prove" = yes ] && ! current; then
     [ "$(cat "$work/ended")" = 0 ] || die "it is not proved: 'rt check $program' says why"
     touch "$built"
 fi
-if current; then run_proved; else run_unproved; fi
+if current; then run_proved "$program" "$file"; else run_unproved; fi

@@ -4,7 +4,7 @@
  * Link with the static library libcard.a. Six functions load a program, make
  * one step or one clock tick, go one action back, run a list of inputs, and
  * play a list of moves. A seventh turns the picture into the bytes of the
- * card's own panel.
+ * card's own panel. A load chooses the edition of the instruction set.
  *
  * THE BUFFERS
  *
@@ -16,7 +16,8 @@
  *   picture  256 bytes     64 by 32 spots, 8 bytes a row, top row first, the
  *                          highest bit leftmost, 1 for a lit spot
  *   history  288 to 65,536 bytes, a place of 288 bytes for each action that can
- *            be taken back; bytes after the last whole place are not used
+ *            be taken back; bytes after the last whole place are in none, and
+ *            only a load writes them: it clears them with all the others
  *
  * Beside them, for card_panel alone:
  *
@@ -25,16 +26,24 @@
  *
  * Each buffer is handed over as a pointer and, right after it, its length. The
  * length counts elements: bytes, 16-bit numbers for keys, 64-bit numbers for an
- * answer. A wrong length is refused, so a call never reads or writes outside
- * the lengths that it was told.
+ * answer. So sizeof gives the length of a buffer of bytes, and of no other: an
+ * answer has CARD_ANSWER elements, and `sizeof answer` is eight times that. A
+ * wrong length is refused, so a call never reads or writes outside the lengths
+ * that it was told.
  *
  * What the host must see to:
  *   - A pointer is never null, even when the length is 0; any valid address
  *     will do then. It must be aligned for its type.
- *   - Two buffers of one call must not overlap.
+ *   - No buffer that is written overlaps another of the same call. Two that are
+ *     only read may: a run's ticks and random bytes can be one list of zeros.
  *   - Any contents are allowed. A state that cannot be is refused with
  *     CARD_UNSOUND; a history that somebody else wrote in may be refused with
  *     CARD_DAMAGED_RECORD.
+ *   - Somebody has written the contents. What is proved speaks of bytes that have
+ *     a value, so buffers that are still uninitialised are outside of it. An
+ *     accepted card_load writes every byte of image, memory, picture and history,
+ *     and a refused one every byte of the image; to be inside the proof with the
+ *     first load too, clear the four before it.
  *
  * Threads: calls on different buffers may be made at the same time. Buffers
  * that are lent to a call are not touched by anybody else until it ends.
@@ -50,13 +59,14 @@
  *
  * AN EXAMPLE
  *
- *   uint8_t image[CARD_IMAGE], memory[CARD_MEMORY], picture[CARD_PICTURE];
- *   uint8_t history[100 * CARD_PLACE];
- *   uint64_t answer[CARD_ANSWER];
+ *   uint8_t image[CARD_IMAGE] = {0}, memory[CARD_MEMORY] = {0};
+ *   uint8_t picture[CARD_PICTURE] = {0}, history[100 * CARD_PLACE] = {0};
+ *   uint64_t answer[CARD_ANSWER] = {0};   (its length is CARD_ANSWER, a count)
  *   const uint8_t program[] = {0x60, 0x05, 0x70, 0x03};   (V0 = 5, V0 += 3)
  *
- *   card_load(program, sizeof program, image, sizeof image, memory,
- *             sizeof memory, picture, sizeof picture, history, sizeof history);
+ *   card_load(program, sizeof program, CARD_FIRST_EDITION, image,
+ *             sizeof image, memory, sizeof memory, picture, sizeof picture,
+ *             history, sizeof history);
  *   card_step(image, sizeof image, memory, sizeof memory, picture,
  *             sizeof picture, history, sizeof history, 0, 0, answer,
  *             CARD_ANSWER);
@@ -108,7 +118,7 @@ extern "C" {
 enum card_refusal {
     CARD_DONE = 0,             /* not refused */
     CARD_PROGRAM_COUNTER = 1,  /* PC above 4,094 */
-    CARD_NOT_LISTED = 2,       /* an instruction that there is not */
+    CARD_NOT_LISTED = 2,       /* an instruction that the edition has not */
     CARD_MACHINE_LANGUAGE = 3, /* 0MMM other than 00E0 and 00EE */
     CARD_STACK_FULL = 4,       /* a call at depth 12 */
     CARD_STACK_EMPTY = 5,      /* a return at depth 0 */
@@ -116,13 +126,14 @@ enum card_refusal {
     CARD_NOTHING_KEPT = 7,     /* a back with kept 0 */
     CARD_PROGRAM_LENGTH = 8,   /* a program of 0 or over 3,584 bytes */
     CARD_LENGTH = 9,           /* a buffer or a list has a wrong length */
-    CARD_UNSOUND = 10,         /* a state that cannot be, next or kept too */
+    CARD_UNSOUND = 10,         /* a state that cannot be, next or kept too; in a
+                                  load an edition that there is not */
     CARD_DAMAGED_RECORD = 11   /* a back onto a damaged record */
 };
 
 /*
  * If more than one applies, the number that is given is the first of
- *   load  9, 8
+ *   load  9, 10, 8
  *   step  9, 10, 1, then 2 or 3, then 4, 5 or 6
  *   tick  9, 10
  *   back  9, 10, 7, 11
@@ -134,19 +145,33 @@ enum card_refusal {
 /* ---- The image ---------------------------------------------------------- */
 
 /* Where each part stands. Numbers of two bytes have the high byte first. */
-#define CARD_AT_V 0      /* V0 to VF, a byte each */
-#define CARD_AT_I 16     /* two bytes */
-#define CARD_AT_PC 18    /* two bytes */
-#define CARD_AT_DEPTH 20 /* return addresses on the stack, 0 to 12 */
-#define CARD_AT_DELAY 21 /* the delay timer */
-#define CARD_AT_TONE 22  /* the tone timer; a tone sounds while it is not 0 */
-#define CARD_AT_HELD 23  /* the key that FX0A holds, 0 to 15, or FF for none */
-#define CARD_AT_STACK 24 /* twelve entries of two bytes, 0 from depth on */
-#define CARD_AT_NEXT 48  /* two bytes: the place of the next record */
-#define CARD_AT_KEPT 50  /* two bytes: how many actions can be taken back */
-#define CARD_AT_LATER 52 /* twelve bytes for later use, all 0 */
+#define CARD_AT_V 0        /* V0 to VF, a byte each */
+#define CARD_AT_I 16       /* two bytes */
+#define CARD_AT_PC 18      /* two bytes */
+#define CARD_AT_DEPTH 20   /* return addresses on the stack, 0 to 12 */
+#define CARD_AT_DELAY 21   /* the delay timer */
+#define CARD_AT_TONE 22    /* the tone timer; a tone sounds while it is not 0 */
+#define CARD_AT_HELD 23    /* the key that FX0A holds, 0 to 15, or FF for none */
+#define CARD_AT_STACK 24   /* twelve entries of two bytes, 0 from depth on */
+#define CARD_AT_NEXT 48    /* two bytes: the place of the next record */
+#define CARD_AT_KEPT 50    /* two bytes: how many actions can be taken back */
+#define CARD_AT_EDITION 52 /* one of the two below */
+#define CARD_AT_LATER 53   /* eleven bytes for later use, all 0 */
 
 #define CARD_NO_KEY 0xFF
+
+/*
+ * The editions of the instruction set. The second has four operations more, with
+ * the flag in VF written last as in all others:
+ *   8XY3  VX becomes VX exclusive-or VY, VF 0
+ *   8XY6  VX becomes VY halved and rounded down, VF the lowest bit of VY
+ *   8XY7  VX becomes VY less VX modulo 256, VF 1 if VY was at least VX, else 0
+ *   8XYE  VX becomes VY doubled modulo 256, VF the highest bit of VY
+ * In the first edition they are CARD_NOT_LISTED. A load chooses the edition, and
+ * no other call changes it.
+ */
+#define CARD_FIRST_EDITION 0
+#define CARD_SECOND_EDITION 1
 
 /* ---- The answer of a step and of a run ---------------------------------- */
 
@@ -159,13 +184,16 @@ enum card_refusal {
 /*
  * Loads a program of 1 to 3,584 bytes to 0200. The digits stand from 0000 to
  * 004F; all other memory, the picture and the whole history become 0. Nothing
- * is read from the four buffers, so they may hold anything before.
+ * is read from the four buffers, so they may hold anything before. An `edition`
+ * other than the two is CARD_UNSOUND.
  *
- * The image becomes the fresh one (PC 0200, held key FF, all else 0) even when
- * the load is refused, provided it has 64 bytes. A refused load leaves memory,
- * picture and history.
+ * The image becomes the fresh one (PC 0200, held key FF, the edition that was
+ * asked for, all else 0) even when the load is refused, provided it has 64 bytes.
+ * It has the first edition where no such edition was asked for, whichever number
+ * refuses the load. A refused load leaves memory, picture and history.
  */
 uint32_t card_load(const uint8_t *program, size_t program_length,
+                   uint8_t edition,
                    uint8_t *image, size_t image_length,
                    uint8_t *memory, size_t memory_length,
                    uint8_t *picture, size_t picture_length,
@@ -238,8 +266,9 @@ enum card_move { CARD_MOVE_STEP = 0, CARD_MOVE_TICK = 1, CARD_MOVE_BACK = 2 };
  * equally long, 0 to 4,096 entries.
  *
  * Lists of unequal or greater length, or a move other than these three
- * anywhere, are CARD_LENGTH. That and CARD_UNSOUND refuse the play as a whole:
- * nothing is changed.
+ * anywhere, are CARD_LENGTH, and a state that cannot be is CARD_UNSOUND. Both
+ * are tested before the first move; a play that is refused there changes
+ * nothing.
  */
 uint32_t card_play(uint8_t *image, size_t image_length,
                    uint8_t *memory, size_t memory_length,

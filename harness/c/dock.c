@@ -78,8 +78,8 @@ static uint32_t after_call(uint32_t refusal) {
 
 /* ---- The calls with all the desk's buffers ------------------------------ */
 
-static uint32_t load(const uint8_t *program, size_t length) {
-    return after_call(card_load(program, length,
+static uint32_t load(const uint8_t *program, size_t length, uint8_t edition) {
+    return after_call(card_load(program, length, edition,
                                 desk.image, sizeof desk.image,
                                 desk.memory, sizeof desk.memory,
                                 desk.picture, sizeof desk.picture,
@@ -202,7 +202,8 @@ static void there_and_back(void) {
 
     memset(&desk, 0x55, sizeof desk);
     set_guards();
-    expect(load(PROGRAM, sizeof PROGRAM) == CARD_DONE, "the load was refused");
+    expect(load(PROGRAM, sizeof PROGRAM, CARD_FIRST_EDITION) == CARD_DONE,
+           "the load was refused");
     memcpy(&start, &desk, sizeof desk);
     printf("loaded %zu bytes\n", sizeof PROGRAM);
     show_state();
@@ -256,7 +257,7 @@ static void run_and_play(void) {
                                     CARD_MOVE_STEP, CARD_MOVE_TICK,
                                     CARD_MOVE_BACK, CARD_MOVE_BACK};
 
-    load(program, sizeof program);
+    load(program, sizeof program, CARD_FIRST_EDITION);
     uint32_t refusal = run(zeros, no_keys, zeros, 64);
     printf("run: %u steps accepted, stop %u at %04X\n",
            (unsigned)desk.answer[CARD_ACCEPTED], (unsigned)refusal,
@@ -274,7 +275,7 @@ static void run_and_play(void) {
     expect(number(CARD_AT_PC) == 0x0206, "the play ends before 8014");
     expect(number(CARD_AT_KEPT) == 3, "the play leaves three actions");
 
-    load(PROGRAM, sizeof PROGRAM);
+    load(PROGRAM, sizeof PROGRAM, CARD_FIRST_EDITION);
     refusal = run(zeros, no_keys, zeros, 7);
     printf("run: %u steps accepted, %u spots went dark\n",
            (unsigned)desk.answer[CARD_ACCEPTED],
@@ -298,7 +299,7 @@ static struct desk before;
 /* A desk with this instruction at 0200 and everything kept for comparison. */
 static void prepare(unsigned word) {
     uint8_t program[2] = {(uint8_t)(word >> 8), (uint8_t)word};
-    load(program, sizeof program);
+    load(program, sizeof program, CARD_FIRST_EDITION);
     memset(desk.answer, 0, sizeof desk.answer);
 }
 
@@ -321,7 +322,7 @@ static void refusals(void) {
 
     prepare(0x8003);
     remember();
-    refused(step(0, 0), CARD_NOT_LISTED, "8003 is not listed");
+    refused(step(0, 0), CARD_NOT_LISTED, "8003 in the first edition");
 
     prepare(0x00FD);
     remember();
@@ -350,7 +351,10 @@ static void refusals(void) {
 
     prepare(0x6000);
     remember();
-    refused(load(PROGRAM, 0), CARD_PROGRAM_LENGTH, "an empty program");
+    refused(load(PROGRAM, 0, CARD_FIRST_EDITION), CARD_PROGRAM_LENGTH,
+            "an empty program");
+    refused(load(PROGRAM, 0, CARD_SECOND_EDITION + 1), CARD_UNSOUND,
+            "a third edition, said before the empty program");
 
     refused(after_call(card_step(desk.image, sizeof desk.image,
                                  desk.memory, sizeof desk.memory - 1,
@@ -389,6 +393,31 @@ static void refusals(void) {
     desk.history[0] ^= 1;
     remember();
     refused(back(), CARD_DAMAGED_RECORD, "a record with a wrong mark");
+}
+
+/* ---- The second edition ------------------------------------------------- */
+
+static void second_edition(void) {
+    static const uint8_t program[] = {
+        0x61, 0x85, /* 0200 V1 = 85 */
+        0x80, 0x16, /* 0202 V0 = V1 halved, VF its lowest bit */
+        0x80, 0x13, /* 0204 V0 = V0 exclusive-or V1 */
+        0x80, 0x17, /* 0206 V0 = V1 less V0 */
+        0x80, 0x1E, /* 0208 V0 = V1 doubled, VF its highest bit */
+    };
+
+    expect(load(program, sizeof program, CARD_SECOND_EDITION) == CARD_DONE,
+           "a load in the second edition is accepted");
+    for (size_t count = 0; count < sizeof program / 2; count++) {
+        accepted_step(0);
+    }
+    expect(desk.image[CARD_AT_V] == 0x0A && desk.image[CARD_AT_V + 15] == 1,
+           "85 doubled is 0A and a flag");
+    expect(desk.image[CARD_AT_EDITION] == CARD_SECOND_EDITION,
+           "no step changes the edition");
+    expect(back() == CARD_DONE, "a back in the second edition is accepted");
+    expect(desk.image[CARD_AT_EDITION] == CARD_SECOND_EDITION,
+           "a back leaves the edition");
 }
 
 /* ---- One place only ----------------------------------------------------- */
@@ -452,6 +481,7 @@ int main(void) {
     there_and_back();
     run_and_play();
     refusals();
+    second_edition();
     one_place();
     the_panel();
     if (surprises > 0) {

@@ -1,253 +1,74 @@
-//! The card's archive: the declarations of include/card.h, and safe calls.
+//! The card's archive: the calls of include/card.h.
 //!
-//! A slice carries its own length, and Rust lets no two changed slices overlap,
-//! so a caller of the safe functions has nothing to get wrong.
+//! A slice crosses as its pointer and its length, and Rust lets no two changed
+//! slices overlap, so a caller of these functions has nothing to get wrong.
 
-mod boundary {
-    extern "C" {
-        pub fn card_load(
-            program: *const u8,
-            program_length: usize,
-            image: *mut u8,
-            image_length: usize,
-            memory: *mut u8,
-            memory_length: usize,
-            picture: *mut u8,
-            picture_length: usize,
-            history: *mut u8,
-            history_length: usize,
-        ) -> u32;
+use crate::buffers::{Lent, Lists};
+use crate::engine::Engine;
 
-        pub fn card_step(
-            image: *mut u8,
-            image_length: usize,
-            memory: *mut u8,
-            memory_length: usize,
-            picture: *mut u8,
-            picture_length: usize,
-            history: *mut u8,
-            history_length: usize,
-            keys: u16,
-            random: u8,
-            answer: *mut u64,
-            answer_length: usize,
-        ) -> u32;
-
-        pub fn card_tick(
-            image: *mut u8,
-            image_length: usize,
-            history: *mut u8,
-            history_length: usize,
-        ) -> u32;
-
-        pub fn card_back(
-            image: *mut u8,
-            image_length: usize,
-            memory: *mut u8,
-            memory_length: usize,
-            picture: *mut u8,
-            picture_length: usize,
-            history: *const u8,
-            history_length: usize,
-        ) -> u32;
-
-        pub fn card_run(
-            image: *mut u8,
-            image_length: usize,
-            memory: *mut u8,
-            memory_length: usize,
-            picture: *mut u8,
-            picture_length: usize,
-            history: *mut u8,
-            history_length: usize,
-            ticks: *const u8,
-            ticks_length: usize,
-            keys: *const u16,
-            keys_length: usize,
-            randoms: *const u8,
-            randoms_length: usize,
-            answer: *mut u64,
-            answer_length: usize,
-        ) -> u32;
-
-        pub fn card_play(
-            image: *mut u8,
-            image_length: usize,
-            memory: *mut u8,
-            memory_length: usize,
-            picture: *mut u8,
-            picture_length: usize,
-            history: *mut u8,
-            history_length: usize,
-            moves: *const u8,
-            moves_length: usize,
-            keys: *const u16,
-            keys_length: usize,
-            randoms: *const u8,
-            randoms_length: usize,
-        ) -> u32;
-
-        pub fn card_panel(
-            picture: *const u8,
-            picture_length: usize,
-            panel: *mut u8,
-            panel_length: usize,
-        ) -> u32;
-    }
+/// Declares a call of the archive and makes it. What crosses is `read` or
+/// `write`, a slice; `value`, a number; `machine`, all the buffers of one; or
+/// `lists`, those of a run or a play.
+macro_rules! cross {
+    ($call:ident: $($crossing:tt)*) => {
+        cross!(@ $call [] [] $($crossing)*,)
+    };
+    (@ $call:ident [$($kind:ty,)*] [$($given:expr,)*]) => {{
+        extern "C" {
+            fn $call($(_: $kind),*) -> u32;
+        }
+        // SAFETY: each pointer and length come from one slice.
+        unsafe { $call($($given),*) }
+    }};
+    (@ $call:ident [$($kinds:tt)*] [$($given:tt)*] machine $lent:ident, $($rest:tt)*) => {
+        cross!(@ $call [$($kinds)*] [$($given)*]
+            write u8 $lent.image, write u8 $lent.memory,
+            write u8 $lent.picture, write u8 $lent.history, $($rest)*)
+    };
+    (@ $call:ident [$($kinds:tt)*] [$($given:tt)*] lists $lists:ident, $($rest:tt)*) => {
+        cross!(@ $call [$($kinds)*] [$($given)*]
+            read u8 $lists.first, read u16 $lists.keys, read u8 $lists.randoms, $($rest)*)
+    };
+    (@ $call:ident [$($kinds:tt)*] [$($given:tt)*] read $item:ident $list:expr, $($rest:tt)*) => {
+        cross!(@ $call [$($kinds)* *const $item, usize,]
+            [$($given)* $list.as_ptr(), $list.len(),] $($rest)*)
+    };
+    (@ $call:ident [$($kinds:tt)*] [$($given:tt)*] write $item:ident $list:expr, $($rest:tt)*) => {
+        cross!(@ $call [$($kinds)* *mut $item, usize,]
+            [$($given)* $list.as_mut_ptr(), $list.len(),] $($rest)*)
+    };
+    (@ $call:ident [$($kinds:tt)*] [$($given:tt)*] value $item:ident $number:expr, $($rest:tt)*) => {
+        cross!(@ $call [$($kinds)* $item,] [$($given)* $number,] $($rest)*)
+    };
 }
 
-pub fn load(
-    program: &[u8],
-    image: &mut [u8],
-    memory: &mut [u8],
-    picture: &mut [u8],
-    history: &mut [u8],
-) -> u32 {
-    // SAFETY: each pointer and length come from one slice.
-    unsafe {
-        boundary::card_load(
-            program.as_ptr(),
-            program.len(),
-            image.as_mut_ptr(),
-            image.len(),
-            memory.as_mut_ptr(),
-            memory.len(),
-            picture.as_mut_ptr(),
-            picture.len(),
-            history.as_mut_ptr(),
-            history.len(),
-        )
-    }
-}
+/// The card's archive.
+pub struct Archive;
 
-pub fn step(
-    image: &mut [u8],
-    memory: &mut [u8],
-    picture: &mut [u8],
-    history: &mut [u8],
-    keys: u16,
-    random: u8,
-    answer: &mut [u64],
-) -> u32 {
-    // SAFETY: each pointer and length come from one slice.
-    unsafe {
-        boundary::card_step(
-            image.as_mut_ptr(),
-            image.len(),
-            memory.as_mut_ptr(),
-            memory.len(),
-            picture.as_mut_ptr(),
-            picture.len(),
-            history.as_mut_ptr(),
-            history.len(),
-            keys,
-            random,
-            answer.as_mut_ptr(),
-            answer.len(),
-        )
+impl Engine for Archive {
+    fn name(&self) -> &'static str {
+        "the card's archive"
     }
-}
-
-pub fn tick(image: &mut [u8], history: &mut [u8]) -> u32 {
-    // SAFETY: each pointer and length come from one slice.
-    unsafe {
-        boundary::card_tick(
-            image.as_mut_ptr(),
-            image.len(),
-            history.as_mut_ptr(),
-            history.len(),
-        )
+    fn load(&self, lent: Lent, program: &[u8], edition: u8) -> u32 {
+        cross!(card_load: read u8 program, value u8 edition, machine lent)
     }
-}
-
-pub fn back(image: &mut [u8], memory: &mut [u8], picture: &mut [u8], history: &[u8]) -> u32 {
-    // SAFETY: each pointer and length come from one slice.
-    unsafe {
-        boundary::card_back(
-            image.as_mut_ptr(),
-            image.len(),
-            memory.as_mut_ptr(),
-            memory.len(),
-            picture.as_mut_ptr(),
-            picture.len(),
-            history.as_ptr(),
-            history.len(),
-        )
+    fn step(&self, lent: Lent, keys: u16, random: u8, answer: &mut [u64]) -> u32 {
+        cross!(card_step: machine lent, value u16 keys, value u8 random, write u64 answer)
     }
-}
-
-#[allow(clippy::too_many_arguments)]
-pub fn run(
-    image: &mut [u8],
-    memory: &mut [u8],
-    picture: &mut [u8],
-    history: &mut [u8],
-    ticks: &[u8],
-    keys: &[u16],
-    randoms: &[u8],
-    answer: &mut [u64],
-) -> u32 {
-    // SAFETY: each pointer and length come from one slice.
-    unsafe {
-        boundary::card_run(
-            image.as_mut_ptr(),
-            image.len(),
-            memory.as_mut_ptr(),
-            memory.len(),
-            picture.as_mut_ptr(),
-            picture.len(),
-            history.as_mut_ptr(),
-            history.len(),
-            ticks.as_ptr(),
-            ticks.len(),
-            keys.as_ptr(),
-            keys.len(),
-            randoms.as_ptr(),
-            randoms.len(),
-            answer.as_mut_ptr(),
-            answer.len(),
-        )
+    fn tick(&self, lent: Lent) -> u32 {
+        cross!(card_tick: write u8 lent.image, write u8 lent.history)
     }
-}
-
-pub fn play(
-    image: &mut [u8],
-    memory: &mut [u8],
-    picture: &mut [u8],
-    history: &mut [u8],
-    moves: &[u8],
-    keys: &[u16],
-    randoms: &[u8],
-) -> u32 {
-    // SAFETY: each pointer and length come from one slice.
-    unsafe {
-        boundary::card_play(
-            image.as_mut_ptr(),
-            image.len(),
-            memory.as_mut_ptr(),
-            memory.len(),
-            picture.as_mut_ptr(),
-            picture.len(),
-            history.as_mut_ptr(),
-            history.len(),
-            moves.as_ptr(),
-            moves.len(),
-            keys.as_ptr(),
-            keys.len(),
-            randoms.as_ptr(),
-            randoms.len(),
-        )
+    fn back(&self, lent: Lent) -> u32 {
+        cross!(card_back: machine lent)
+    }
+    fn run(&self, lent: Lent, lists: Lists, answer: &mut [u64]) -> u32 {
+        cross!(card_run: machine lent, lists lists, write u64 answer)
+    }
+    fn play(&self, lent: Lent, lists: Lists) -> u32 {
+        cross!(card_play: machine lent, lists lists)
     }
 }
 
 pub fn panel(picture: &[u8], panel: &mut [u8]) -> u32 {
-    // SAFETY: each pointer and length come from one slice.
-    unsafe {
-        boundary::card_panel(
-            picture.as_ptr(),
-            picture.len(),
-            panel.as_mut_ptr(),
-            panel.len(),
-        )
-    }
+    cross!(card_panel: read u8 picture, write u8 panel)
 }

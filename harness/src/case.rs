@@ -3,30 +3,14 @@
 
 use std::fmt;
 
-use crate::engine::Buffers;
+use crate::buffers::{Host, Lists, Part, PARTS};
 use crate::second::{Machine, IMAGE, PLACE};
-
-/// What a host holds.
-#[derive(Clone, Debug, PartialEq, Eq)]
-pub struct Host {
-    pub image: Vec<u8>,
-    pub memory: Vec<u8>,
-    pub picture: Vec<u8>,
-    pub history: Vec<u8>,
-}
-
-#[derive(Clone, Copy, Debug, PartialEq, Eq)]
-pub enum Part {
-    Image,
-    Memory,
-    Picture,
-    History,
-}
 
 #[derive(Clone, Debug, PartialEq, Eq)]
 pub enum Call {
     Load {
         program: Vec<u8>,
+        edition: u8,
     },
     Step {
         keys: u16,
@@ -61,18 +45,11 @@ pub struct Case {
     pub calls: Vec<Call>,
 }
 
-/// The lists that a call is lent; most calls are lent none.
-pub struct Lists<'a> {
-    /// A program, ticks or moves.
-    pub first: &'a [u8],
-    pub keys: &'a [u16],
-    pub randoms: &'a [u8],
-}
-
 impl Call {
+    /// The lists that the call is lent; most calls are lent none.
     pub fn lists(&self) -> Lists<'_> {
         let (first, keys, randoms): (&[u8], &[u16], &[u8]) = match self {
-            Call::Load { program } => (program, &[], &[]),
+            Call::Load { program, .. } => (program, &[], &[]),
             Call::Run {
                 ticks: first,
                 keys,
@@ -101,26 +78,6 @@ impl Call {
     }
 }
 
-impl Host {
-    pub fn buffers(&mut self) -> Buffers<'_> {
-        Buffers {
-            image: &mut self.image,
-            memory: &mut self.memory,
-            picture: &mut self.picture,
-            history: &mut self.history,
-        }
-    }
-
-    pub fn part(&mut self, part: Part) -> &mut Vec<u8> {
-        match part {
-            Part::Image => &mut self.image,
-            Part::Memory => &mut self.memory,
-            Part::Picture => &mut self.picture,
-            Part::History => &mut self.history,
-        }
-    }
-}
-
 /// The host's own write.
 pub fn write_bytes(buffer: &mut [u8], at: usize, bytes: &[u8]) {
     for (offset, byte) in bytes.iter().enumerate() {
@@ -145,23 +102,17 @@ impl fmt::Display for Case {
 
 impl fmt::Display for Host {
     fn fmt(&self, f: &mut fmt::Formatter) -> fmt::Result {
-        writeln!(
-            f,
-            "  image ({} bytes): {}",
-            self.image.len(),
-            hex(&self.image)
-        )?;
         if self.image.len() == IMAGE {
             let m = Machine::from_image(&self.image);
             writeln!(
                 f,
-                "    PC {:04X}, I {:04X}, depth {}, delay {:02X}, tone {:02X}, wait {:?}, next {}, kept {}",
-                m.pc, m.i, m.depth, m.delay, m.tone, m.wait, m.next, m.kept
+                "    PC {:04X}, I {:04X}, depth {}, delay {:02X}, tone {:02X}, wait {:?}, next {}, kept {}, edition {}",
+                m.pc, m.i, m.depth, m.delay, m.tone, m.wait, m.next, m.kept, m.edition
             )?;
         }
-        buffer(f, "memory", &self.memory)?;
-        buffer(f, "picture", &self.picture)?;
-        buffer(f, "history", &self.history)?;
+        for (part, name) in PARTS {
+            buffer(f, name, self.part(*part))?;
+        }
         writeln!(f, "    places: {}", self.history.len() / PLACE)
     }
 }
@@ -184,9 +135,13 @@ fn buffer(f: &mut fmt::Formatter, name: &str, bytes: &[u8]) -> fmt::Result {
 impl fmt::Display for Call {
     fn fmt(&self, f: &mut fmt::Formatter) -> fmt::Result {
         match self {
-            Call::Load { program } => {
+            Call::Load { program, edition } => {
                 let bytes = in_rows(program, |byte| format!("{byte:02X}"));
-                write!(f, "load {} bytes [{bytes}]", program.len())
+                write!(
+                    f,
+                    "load {} bytes [{bytes}] edition {edition}",
+                    program.len()
+                )
             }
             Call::Step {
                 keys,

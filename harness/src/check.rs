@@ -3,11 +3,13 @@
 
 use std::fmt;
 
-use crate::case::{hex, write_bytes, Call, Case, Host, Lists, Part};
-use crate::engine::{Buffers, Engine, Second};
+use crate::buffers::{Buffers, Host, Lent, Lists, Part, PARTS};
+use crate::case::{hex, write_bytes, Call, Case};
+use crate::engine::{Engine, Second};
 use crate::guard::Guarded;
 use crate::plain_list::PlainList;
 use crate::tally::Tally;
+use crate::{card, dots};
 
 /// Where and how the engine first differed.
 #[derive(Debug)]
@@ -26,7 +28,7 @@ impl fmt::Display for Mismatch {
 pub fn check(engine: &dyn Engine, case: &Case, tally: &mut Tally) -> Result<(), Mismatch> {
     let mut sides = Sides {
         expected: case.start.clone(),
-        got: Lent::new(&case.start),
+        got: case.start.each().map(|buffer| Guarded::buffer(buffer)),
         list: PlainList::start(&case.start),
     };
     for (number, call) in case.calls.iter().enumerate() {
@@ -48,39 +50,49 @@ pub fn fails(engine: &dyn Engine, case: &Case) -> bool {
 }
 
 /// Makes one call with these lists. A host's own write is no call.
-pub fn make(
-    engine: &dyn Engine,
-    call: &Call,
-    lists: Lists,
-    buffers: Buffers,
-    answer: &mut [u64],
-) -> u32 {
+pub fn make(engine: &dyn Engine, call: &Call, lists: Lists, lent: Lent, answer: &mut [u64]) -> u32 {
     match call {
-        Call::Load { .. } => engine.load(buffers, lists.first),
-        Call::Step { keys, random, .. } => engine.step(buffers, *keys, *random, answer),
-        Call::Tick => engine.tick(buffers),
-        Call::Back => engine.back(buffers),
-        Call::Run { .. } => engine.run(buffers, lists.first, lists.keys, lists.randoms, answer),
-        Call::Play { .. } => engine.play(buffers, lists.first, lists.keys, lists.randoms),
+        Call::Load { edition, .. } => engine.load(lent, lists.first, *edition),
+        Call::Step { keys, random, .. } => engine.step(lent, *keys, *random, answer),
+        Call::Tick => engine.tick(lent),
+        Call::Back => engine.back(lent),
+        Call::Run { .. } => engine.run(lent, lists, answer),
+        Call::Play { .. } => engine.play(lent, lists),
         Call::Write { .. } => unreachable!("a host's write is no call"),
     }
 }
 
+/// The card's panel beside the doubling dot by dot, on copies of the same
+/// buffers. Answers the refusal and the panel that both left.
+pub fn check_panel(picture: &[u8], panel: &[u8]) -> Result<(u32, Vec<u8>), String> {
+    let lent = Guarded::new(picture);
+    let mut got = Guarded::new(panel);
+    let mut expected = panel.to_vec();
+    let refusal = card::panel(lent.contents(), got.lent());
+    let right = dots::panel(picture, &mut expected);
+    if refusal != right {
+        return Err(format!("refusal: expected {right}, got {refusal}"));
+    }
+    compare_list("picture", picture, &lent)?;
+    compare_buffer("panel", &expected, &got)?;
+    Ok((refusal, expected))
+}
+
 /// What an answer holds before a call, so that each write to it is seen.
-const UNWRITTEN: u64 = 0x5A5A_5A5A_5A5A_5A5A;
+pub const UNWRITTEN: u64 = 0x5A5A_5A5A_5A5A_5A5A;
 
 /// The second interpreter's host, the buffers lent to the engine under test,
 /// and demand 3's list while nobody else writes in the buffers.
 struct Sides {
     expected: Host,
-    got: Lent,
+    got: Buffers<Guarded<u8>>,
     list: Option<PlainList>,
 }
 
 impl Sides {
     fn write(&mut self, part: Part, at: usize, bytes: &[u8]) {
-        write_bytes(self.expected.part(part), at, bytes);
-        write_bytes(self.got.part(part).lent(), at, bytes);
+        write_bytes(self.expected.part_mut(part), at, bytes);
+        write_bytes(self.got.part_mut(part).lent(), at, bytes);
         self.list = None;
     }
 
@@ -95,7 +107,7 @@ impl Sides {
             engine,
             call,
             lent.lists(),
-            self.got.buffers(),
+            self.got.each_mut().map(Guarded::lent),
             answer.lent(),
         );
         lent.compare(&lists)?;
@@ -103,7 +115,7 @@ impl Sides {
             &Second,
             call,
             lists,
-            self.expected.buffers(),
+            self.expected.lend(),
             &mut expected_answer,
         );
 
@@ -111,7 +123,9 @@ impl Sides {
             return Err(format!("refusal: expected {expected}, got {refusal}"));
         }
         compare_answer(&expected_answer, &answer)?;
-        self.got.compare(&self.expected)?;
+        for (part, name) in PARTS {
+            compare_buffer(name, self.expected.part(*part), self.got.part(*part))?;
+        }
         self.follow(call, refusal)?;
         Ok(refusal)
     }
@@ -137,50 +151,6 @@ impl Sides {
             }
         }
         Ok(())
-    }
-}
-
-/// The buffers lent to the engine under test.
-struct Lent {
-    image: Guarded<u8>,
-    memory: Guarded<u8>,
-    picture: Guarded<u8>,
-    history: Guarded<u8>,
-}
-
-impl Lent {
-    fn new(host: &Host) -> Lent {
-        Lent {
-            image: Guarded::new(&host.image),
-            memory: Guarded::new(&host.memory),
-            picture: Guarded::new(&host.picture),
-            history: Guarded::history(&host.history),
-        }
-    }
-
-    fn buffers(&mut self) -> Buffers<'_> {
-        Buffers {
-            image: self.image.lent(),
-            memory: self.memory.lent(),
-            picture: self.picture.lent(),
-            history: self.history.lent(),
-        }
-    }
-
-    fn part(&mut self, part: Part) -> &mut Guarded<u8> {
-        match part {
-            Part::Image => &mut self.image,
-            Part::Memory => &mut self.memory,
-            Part::Picture => &mut self.picture,
-            Part::History => &mut self.history,
-        }
-    }
-
-    fn compare(&self, expected: &Host) -> Result<(), String> {
-        compare_buffer("image", &expected.image, &self.image)?;
-        compare_buffer("memory", &expected.memory, &self.memory)?;
-        compare_buffer("picture", &expected.picture, &self.picture)?;
-        compare_buffer("history", &expected.history, &self.history)
     }
 }
 

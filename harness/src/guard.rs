@@ -6,7 +6,7 @@ const GUARD: u8 = 0xA5;
 const BEFORE: usize = 31;
 const AFTER: usize = 33;
 /// More than one place, since the history is written a place at a time.
-const AFTER_HISTORY: usize = 321;
+const AFTER_BUFFER: usize = 321;
 
 pub struct Guarded<T> {
     all: Vec<T>,
@@ -14,8 +14,9 @@ pub struct Guarded<T> {
 }
 
 impl Guarded<u8> {
-    pub fn history(contents: &[u8]) -> Guarded<u8> {
-        Guarded::with(contents, AFTER_HISTORY)
+    /// One of the buffers that make up a machine.
+    pub fn buffer(contents: &[u8]) -> Guarded<u8> {
+        Guarded::with(contents, AFTER_BUFFER)
     }
 }
 

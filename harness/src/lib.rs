@@ -1,9 +1,11 @@
 //! The host's side of the card: calls, a second interpreter, the comparison.
 
+pub mod buffers;
 pub mod card;
 pub mod case;
 pub mod check;
 pub mod dots;
+pub mod edges;
 pub mod engine;
 pub mod generate;
 pub mod guard;

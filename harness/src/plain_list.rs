@@ -4,7 +4,8 @@
 
 use std::collections::VecDeque;
 
-use crate::case::{Call, Host};
+use crate::buffers::Host;
+use crate::case::Call;
 use crate::engine::ANSWER;
 use crate::second::{self, Lent, Machine, Refusal, IMAGE, LIST_MOST, MEMORY, PICTURE, PLACE};
 

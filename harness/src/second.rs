@@ -18,6 +18,10 @@ pub const PLACE: usize = 288;
 pub const HISTORY_MOST: usize = 65_536;
 pub const LIST_MOST: usize = 4096;
 
+/// The editions of the instruction set.
+pub const FIRST_EDITION: u8 = 0;
+pub const SECOND_EDITION: u8 = 1;
+
 /// A state, and the two numbers that go with its history.
 #[derive(Clone, Debug, PartialEq, Eq)]
 pub struct Machine {
@@ -32,8 +36,10 @@ pub struct Machine {
     pub wait: Option<u8>,
     pub next: u16,
     pub kept: u16,
-    /// The image's bytes 52 to 63, kept for later. Sound only when all are 0.
-    pub later: [u8; 12],
+    /// First or second. A state handed in may have a number that is neither.
+    pub edition: u8,
+    /// The image's bytes that are kept for later. Sound only when all are 0.
+    pub later: [u8; LATER.len()],
 }
 
 /// The buffers lent beside a machine.
@@ -60,7 +66,7 @@ pub enum Refusal {
 
 impl Machine {
     /// The machine that a load hands back.
-    pub fn fresh() -> Machine {
+    pub fn fresh(edition: u8) -> Machine {
         Machine {
             v: [0; 16],
             i: 0,
@@ -72,7 +78,8 @@ impl Machine {
             wait: None,
             next: 0,
             kept: 0,
-            later: [0; 12],
+            edition,
+            later: [0; LATER.len()],
         }
     }
 
@@ -81,7 +88,8 @@ impl Machine {
         depth <= STACK
             && self.stack[depth..].iter().all(|&entry| entry == 0)
             && self.wait.is_none_or(|key| key <= 15)
-            && self.later == [0; 12]
+            && is_edition(self.edition)
+            && self.later == [0; LATER.len()]
     }
 
     /// The last return address, 0 if depth is 0.
@@ -91,6 +99,10 @@ impl Machine {
             depth => self.stack[usize::from(depth) - 1],
         }
     }
+}
+
+fn is_edition(number: u8) -> bool {
+    number == FIRST_EDITION || number == SECOND_EDITION
 }
 
 /// R, the number of places in a history.
@@ -154,13 +166,20 @@ const DIGITS: [[u8; 5]; 16] = [
     [0xF0, 0x80, 0xF0, 0x80, 0x80],
 ];
 
-/// A load takes no machine. Refused or not, it hands back the fresh one.
-pub fn load(program: &[u8], lent: &mut Lent) -> (Machine, Result<(), Refusal>) {
-    (Machine::fresh(), fill_buffers(program, lent))
+/// A load takes no machine. Refused or not, it hands back the fresh one, of the
+/// edition that was asked for, or of the first where there is no such edition.
+pub fn load(program: &[u8], edition: u8, lent: &mut Lent) -> (Machine, Result<(), Refusal>) {
+    let handed_back = match is_edition(edition) {
+        true => edition,
+        false => FIRST_EDITION,
+    };
+    let outcome = fill_buffers(program, edition, lent);
+    (Machine::fresh(handed_back), outcome)
 }
 
-fn fill_buffers(program: &[u8], lent: &mut Lent) -> Result<(), Refusal> {
+fn fill_buffers(program: &[u8], edition: u8, lent: &mut Lent) -> Result<(), Refusal> {
     test_lengths(lent)?;
+    test(is_edition(edition), Refusal::Unsound)?;
     let fits = (1..=PROGRAM_MOST).contains(&program.len());
     test(fits, Refusal::ProgramLength)?;
 
@@ -180,7 +199,7 @@ fn fill_buffers(program: &[u8], lent: &mut Lent) -> Result<(), Refusal> {
 
 // ---- One step -------------------------------------------------------------
 
-/// The instructions of the paper, in its order. X and Y are register numbers.
+/// The instructions of the papers, in their order. X and Y are register numbers.
 enum Instruction {
     ClearPicture,                           // 00E0
     Return,                                 // 00EE
@@ -212,19 +231,25 @@ enum Instruction {
     SetTone { x: usize },                   // FX18
     WaitForKey { x: usize },                // FX0A
     Draw { x: usize, y: usize, n: usize },  // DXYN
+    // in the second edition alone.
+    ExclusiveOr { x: usize, y: usize },  // 8XY3
+    Halve { x: usize, y: usize },        // 8XY6
+    SubtractFrom { x: usize, y: usize }, // 8XY7
+    Double { x: usize, y: usize },       // 8XYE
 }
 
 use Instruction::*;
 
 /// The instruction is the byte at PC, then the byte at PC+1.
-fn instruction_at(pc: u16, memory: &[u8]) -> Result<Instruction, Refusal> {
+fn instruction_at(pc: u16, memory: &[u8], edition: u8) -> Result<Instruction, Refusal> {
     test(pc <= 4094, Refusal::ProgramCounter)?;
     let high = memory[usize::from(pc)];
     let low = memory[usize::from(pc) + 1];
-    listed(u16::from(high) * 256 + u16::from(low))
+    listed(u16::from(high) * 256 + u16::from(low), edition)
 }
 
-fn listed(word: u16) -> Result<Instruction, Refusal> {
+fn listed(word: u16, edition: u8) -> Result<Instruction, Refusal> {
+    let second = edition == SECOND_EDITION;
     let first_digit = word / 0x1000;
     let x = usize::from(word / 0x100 % 0x10);
     let y = usize::from(word / 0x10 % 0x10);
@@ -247,6 +272,10 @@ fn listed(word: u16) -> Result<Instruction, Refusal> {
         (0x8, _, 0x2) => And { x, y },
         (0x8, _, 0x4) => AddRegister { x, y },
         (0x8, _, 0x5) => Subtract { x, y },
+        (0x8, _, 0x3) if second => ExclusiveOr { x, y },
+        (0x8, _, 0x6) if second => Halve { x, y },
+        (0x8, _, 0x7) if second => SubtractFrom { x, y },
+        (0x8, _, 0xE) if second => Double { x, y },
         (0x9, _, 0x0) => SkipIfDifferent { x, y },
         (0xA, _, _) => SetI { mmm },
         (0xB, _, _) => JumpPlusV0 { mmm },
@@ -297,7 +326,7 @@ fn bytes_needed(instruction: &Instruction) -> usize {
 pub fn step(machine: &mut Machine, lent: &mut Lent, keys: u16, random: u8) -> Result<u64, Refusal> {
     test_lengths(lent)?;
     test_state(machine, lent.history)?;
-    let instruction = instruction_at(machine.pc, lent.memory)?;
+    let instruction = instruction_at(machine.pc, lent.memory, machine.edition)?;
     test_possible(&instruction, machine)?;
 
     write_record(machine, lent, old_bytes(&instruction, machine));
@@ -419,6 +448,23 @@ fn execute(
             let pattern = &lent.memory[at_i..at_i + n];
             went_dark = draw(lent.picture, column, row, pattern);
             machine.v[0xF] = u8::from(went_dark > 0);
+        }
+
+        ExclusiveOr { x, y } => {
+            machine.v[x] = old.v[x] ^ old.v[y];
+            machine.v[0xF] = 0;
+        }
+        Halve { x, y } => {
+            machine.v[x] = old.v[y] / 2;
+            machine.v[0xF] = old.v[y] % 2;
+        }
+        SubtractFrom { x, y } => {
+            machine.v[x] = old.v[y].wrapping_sub(old.v[x]);
+            machine.v[0xF] = u8::from(old.v[y] >= old.v[x]);
+        }
+        Double { x, y } => {
+            machine.v[x] = (2 * u16::from(old.v[y]) % 256) as u8;
+            machine.v[0xF] = old.v[y] / 128;
         }
     }
     went_dark
@@ -683,10 +729,12 @@ fn is_damaged(record: &[u8], present_depth: u8) -> bool {
 // ---- The image ------------------------------------------------------------
 
 pub const IMAGE: usize = 64;
+/// Where the image holds nothing yet.
+pub const LATER: [usize; 11] = [53, 54, 55, 56, 57, 58, 59, 60, 61, 62, 63];
 
 impl Machine {
     pub fn from_image(image: &[u8]) -> Machine {
-        let mut machine = Machine::fresh();
+        let mut machine = Machine::fresh(image[52]);
         machine.v.copy_from_slice(&image[0..16]);
         machine.i = get(image, 16);
         machine.pc = get(image, 18);
@@ -702,7 +750,7 @@ impl Machine {
         }
         machine.next = get(image, 48);
         machine.kept = get(image, 50);
-        machine.later.copy_from_slice(&image[52..64]);
+        machine.later = LATER.map(|at| image[at]);
         machine
     }
 
@@ -720,7 +768,10 @@ impl Machine {
         }
         put(&mut image, 48, self.next);
         put(&mut image, 50, self.kept);
-        image[52..64].copy_from_slice(&self.later);
+        image[52] = self.edition;
+        for (at, byte) in LATER.iter().zip(self.later) {
+            image[*at] = byte;
+        }
         image
     }
 }

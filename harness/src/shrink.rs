@@ -3,10 +3,11 @@
 
 use std::time::{Duration, Instant};
 
-use crate::case::{write_bytes, Call, Case, Host, Part};
+use crate::buffers::{Host, PARTS};
+use crate::case::{write_bytes, Call, Case};
 use crate::check::make;
 use crate::engine::Second;
-use crate::second::PLACE;
+use crate::second::{FIRST_EDITION, PLACE};
 
 /// Tries changes of a case and keeps those after which it still fails.
 struct Shrinker<'a> {
@@ -98,11 +99,16 @@ impl Shrinker<'_> {
                     }
                 });
             }
-            Call::Load { program } => {
+            Call::Load { program, .. } => {
                 let length = program.len();
+                self.try_case(|case| {
+                    if let Call::Load { edition, .. } = &mut case.calls[number] {
+                        *edition = FIRST_EDITION;
+                    }
+                });
                 self.drop_entries(number, length);
                 self.clear_bytes(length, move |case| match &mut case.calls[number] {
-                    Call::Load { program } => program,
+                    Call::Load { program, .. } => program,
                     _ => unreachable!("the call stays a load"),
                 });
             }
@@ -135,7 +141,7 @@ impl Shrinker<'_> {
             while end > 0 {
                 let first = end.saturating_sub(row);
                 self.try_case(|case| match &mut case.calls[number] {
-                    Call::Load { program } => drop_row(program, first, end),
+                    Call::Load { program, .. } => drop_row(program, first, end),
                     Call::Run {
                         ticks: list,
                         keys,
@@ -199,9 +205,10 @@ impl Shrinker<'_> {
     }
 
     fn clear_start(&mut self) {
-        for part in [Part::Memory, Part::History, Part::Picture, Part::Image] {
+        // The image last: its bytes mean the most.
+        for &(part, _) in PARTS.iter().rev() {
             let length = self.case.start.part(part).len();
-            self.clear_bytes(length, move |case| case.start.part(part));
+            self.clear_bytes(length, move |case| case.start.part_mut(part));
         }
     }
 
@@ -229,10 +236,10 @@ impl Shrinker<'_> {
 /// A call as the second interpreter makes it.
 fn make_on(host: &mut Host, call: &Call) {
     if let Call::Write { part, at, bytes } = call {
-        write_bytes(host.part(*part), *at, bytes);
+        write_bytes(host.part_mut(*part), *at, bytes);
     } else {
         let mut answer = vec![0; call.answer_length()];
-        make(&Second, call, call.lists(), host.buffers(), &mut answer);
+        make(&Second, call, call.lists(), host.lend(), &mut answer);
     }
 }
 

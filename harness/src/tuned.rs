@@ -3,6 +3,9 @@
 //!
 //! A step is judged before anything is written, and nothing is allocated.
 
+use crate::buffers::{Lent, Lists};
+use crate::engine::Engine;
+
 const MEMORY: usize = 4096;
 const PICTURE: usize = 256;
 const ROWS: usize = 32;
@@ -14,6 +17,8 @@ const LIST_MOST: usize = 4096;
 const PROGRAM_MOST: usize = 3584;
 const START: usize = 0x0200;
 const NO_KEY: u8 = 0xFF;
+const FIRST_EDITION: u8 = 0;
+const SECOND_EDITION: u8 = 1;
 
 const PROGRAM_COUNTER: u32 = 1;
 const NOT_LISTED: u32 = 2;
@@ -106,6 +111,7 @@ struct Work {
     stack: [u16; 16],
     next: usize,
     kept: usize,
+    second_edition: bool,
     /// Lit spots that the steps so far have darkened. Only a drawing adds to it,
     /// so other steps do no work for it.
     went_dark: u64,
@@ -127,10 +133,12 @@ impl Work {
         let held = image[23];
         let next = usize::from(number(image, 48));
         let kept = usize::from(number(image, 50));
+        let edition = image[52];
         let sound = depth <= 12
             && entries_from(&stack, depth) == 0
             && (held <= 15 || held == NO_KEY)
-            && image[52..] == [0; 12]
+            && edition <= SECOND_EDITION
+            && image[53..] == [0; 11]
             && next < places
             && kept <= places;
         if !sound {
@@ -148,11 +156,13 @@ impl Work {
             stack,
             next,
             kept,
+            second_edition: edition == SECOND_EDITION,
             went_dark: 0,
         })
     }
 
-    /// The image's last twelve bytes are 0 already, or it had been refused.
+    /// The edition stands in the image already, and the eleven bytes after it are
+    /// 0, or it had been refused.
     #[inline(always)]
     fn write(&self, image: &mut Image) {
         image[..16].copy_from_slice(&self.v.0.to_be_bytes());
@@ -294,6 +304,22 @@ impl Work {
                 0x5 => {
                     self.v.set(x, vx.wrapping_sub(vy));
                     self.v.set_flag(vx >= vy);
+                }
+                0x3 if self.second_edition => {
+                    self.v.set(x, vx ^ vy);
+                    self.v.set_flag(false);
+                }
+                0x6 if self.second_edition => {
+                    self.v.set(x, vy >> 1);
+                    self.v.set_flag(vy & 1 != 0);
+                }
+                0x7 if self.second_edition => {
+                    self.v.set(x, vy.wrapping_sub(vx));
+                    self.v.set_flag(vy >= vx);
+                }
+                0xE if self.second_edition => {
+                    self.v.set(x, vy << 1);
+                    self.v.set_flag(vy & 0x80 != 0);
                 }
                 _ => return NOT_LISTED,
             },
@@ -509,196 +535,180 @@ fn fetch(memory: &Memory, i: usize, x: usize, v: &mut Registers) {
 
 // ---- The six calls --------------------------------------------------------
 
-fn places_of(history: &[u8]) -> Option<&[Place]> {
-    (PLACE..=HISTORY_MOST)
-        .contains(&history.len())
-        .then_some(history.as_chunks().0)
-}
+/// The hand-tuned rival of the measurements.
+pub struct Tuned;
 
-fn places_of_mut(history: &mut [u8]) -> Option<&mut [Place]> {
+fn places_of(history: &mut [u8]) -> Option<&mut [Place]> {
     (PLACE..=HISTORY_MOST)
         .contains(&history.len())
         .then_some(history.as_chunks_mut().0)
 }
 
-pub fn load(
-    program: &[u8],
-    image: &mut [u8],
-    memory: &mut [u8],
-    picture: &mut [u8],
-    history: &mut [u8],
-) -> u32 {
-    let Ok(image) = <&mut Image>::try_from(image) else {
-        return LENGTH;
-    };
-    image.fill(0);
-    image[18..20].copy_from_slice(&(START as u16).to_be_bytes());
-    image[23] = NO_KEY;
-    if memory.len() != MEMORY || picture.len() != PICTURE || places_of(history).is_none() {
-        return LENGTH;
-    }
-    if program.is_empty() || program.len() > PROGRAM_MOST {
-        return PROGRAM_LENGTH;
-    }
-    memory.fill(0);
-    memory[..DIGITS.len()].copy_from_slice(&DIGITS);
-    memory[START..START + program.len()].copy_from_slice(program);
-    picture.fill(0);
-    history.fill(0);
-    0
+/// The lent buffers, once their lengths are right.
+struct Fitting<'a> {
+    image: &'a mut Image,
+    memory: &'a mut Memory,
+    picture: &'a mut Picture,
+    places: &'a mut [Place],
 }
 
-/// Never inlined, so that it is measured as a call like the card's own.
-#[inline(never)]
-pub fn step(
-    image: &mut [u8],
-    memory: &mut [u8],
-    picture: &mut [u8],
-    history: &mut [u8],
-    keys: u16,
-    random: u8,
-    answer: &mut [u64],
-) -> u32 {
-    let Ok(answer) = <&mut [u64; ANSWER]>::try_from(answer) else {
-        return LENGTH;
-    };
-    *answer = [0; ANSWER];
-    let (Ok(image), Ok(memory), Ok(picture), Some(places)) = (
-        <&mut Image>::try_from(image),
-        <&mut Memory>::try_from(memory),
-        <&mut Picture>::try_from(picture),
-        places_of_mut(history),
-    ) else {
-        return LENGTH;
-    };
-    let Some(mut work) = Work::read(image, places.len()) else {
-        return UNSOUND;
-    };
-    let refusal = work.step(memory, picture, places, keys, random);
-    if refusal == 0 {
-        work.write(image);
-        answer[0] = 1;
-        answer[1] = work.went_dark;
-    }
-    refusal
+#[inline(always)]
+fn fitting(lent: Lent<'_>) -> Option<Fitting<'_>> {
+    Some(Fitting {
+        image: lent.image.try_into().ok()?,
+        memory: lent.memory.try_into().ok()?,
+        picture: lent.picture.try_into().ok()?,
+        places: places_of(lent.history)?,
+    })
 }
 
-pub fn tick(image: &mut [u8], history: &mut [u8]) -> u32 {
-    let (Ok(image), Some(places)) = (<&mut Image>::try_from(image), places_of_mut(history)) else {
-        return LENGTH;
-    };
-    let Some(mut work) = Work::read(image, places.len()) else {
-        return UNSOUND;
-    };
-    work.tick(places);
-    work.write(image);
-    0
+fn lists_fit(lists: Lists) -> bool {
+    let length = lists.first.len();
+    length <= LIST_MOST && lists.keys.len() == length && lists.randoms.len() == length
 }
 
-pub fn back(image: &mut [u8], memory: &mut [u8], picture: &mut [u8], history: &[u8]) -> u32 {
-    let (Ok(image), Ok(memory), Ok(picture), Some(places)) = (
-        <&mut Image>::try_from(image),
-        <&mut Memory>::try_from(memory),
-        <&mut Picture>::try_from(picture),
-        places_of(history),
-    ) else {
-        return LENGTH;
-    };
-    let Some(mut work) = Work::read(image, places.len()) else {
-        return UNSOUND;
-    };
-    let refusal = work.back(memory, picture, places);
-    if refusal == 0 {
-        work.write(image);
-    }
-    refusal
+/// The entries of the three lists, one after the other.
+#[inline(always)]
+fn entries(lists: Lists<'_>) -> impl Iterator<Item = (u8, u16, u8)> + '_ {
+    lists
+        .first
+        .iter()
+        .zip(lists.keys)
+        .zip(lists.randoms)
+        .map(|((first, keys), random)| (*first, *keys, *random))
 }
 
-#[allow(clippy::too_many_arguments)]
-pub fn run(
-    image: &mut [u8],
-    memory: &mut [u8],
-    picture: &mut [u8],
-    history: &mut [u8],
-    ticks: &[u8],
-    keys: &[u16],
-    randoms: &[u8],
-    answer: &mut [u64],
-) -> u32 {
-    let Ok(answer) = <&mut [u64; ANSWER]>::try_from(answer) else {
-        return LENGTH;
-    };
-    *answer = [0; ANSWER];
-    let (Ok(image), Ok(memory), Ok(picture), Some(places)) = (
-        <&mut Image>::try_from(image),
-        <&mut Memory>::try_from(memory),
-        <&mut Picture>::try_from(picture),
-        places_of_mut(history),
-    ) else {
-        return LENGTH;
-    };
-    if ticks.len() > LIST_MOST || keys.len() != ticks.len() || randoms.len() != ticks.len() {
-        return LENGTH;
+impl Engine for Tuned {
+    fn name(&self) -> &'static str {
+        "the hand-tuned engine"
     }
-    let Some(mut work) = Work::read(image, places.len()) else {
-        return UNSOUND;
-    };
-    let mut accepted = 0;
-    let mut refusal = 0;
-    for ((ticks, keys), random) in ticks.iter().zip(keys).zip(randoms) {
-        for _ in 0..*ticks {
-            work.tick(places);
-        }
-        refusal = work.step(memory, picture, places, *keys, *random);
-        if refusal != 0 {
-            break;
-        }
-        accepted += 1;
-    }
-    work.write(image);
-    answer[0] = accepted;
-    answer[1] = work.went_dark;
-    refusal
-}
 
-pub fn play(
-    image: &mut [u8],
-    memory: &mut [u8],
-    picture: &mut [u8],
-    history: &mut [u8],
-    moves: &[u8],
-    keys: &[u16],
-    randoms: &[u8],
-) -> u32 {
-    let (Ok(image), Ok(memory), Ok(picture), Some(places)) = (
-        <&mut Image>::try_from(image),
-        <&mut Memory>::try_from(memory),
-        <&mut Picture>::try_from(picture),
-        places_of_mut(history),
-    ) else {
-        return LENGTH;
-    };
-    if moves.len() > LIST_MOST
-        || keys.len() != moves.len()
-        || randoms.len() != moves.len()
-        || moves.iter().any(|&made| made > 2)
-    {
-        return LENGTH;
-    }
-    let Some(mut work) = Work::read(image, places.len()) else {
-        return UNSOUND;
-    };
-    let mut refusal = 0;
-    for ((made, keys), random) in moves.iter().zip(keys).zip(randoms) {
-        refusal = match made {
-            0 => work.step(memory, picture, places, *keys, *random),
-            1 => {
-                work.tick(places);
-                0
-            }
-            _ => work.back(memory, picture, places),
+    fn load(&self, lent: Lent, program: &[u8], edition: u8) -> u32 {
+        let Ok(image) = <&mut Image>::try_from(lent.image) else {
+            return LENGTH;
         };
+        image.fill(0);
+        image[18..20].copy_from_slice(&(START as u16).to_be_bytes());
+        image[23] = NO_KEY;
+        let listed = edition <= SECOND_EDITION;
+        image[52] = if listed { edition } else { FIRST_EDITION };
+        let (memory, picture, history) = (lent.memory, lent.picture, lent.history);
+        if memory.len() != MEMORY || picture.len() != PICTURE || places_of(history).is_none() {
+            return LENGTH;
+        }
+        if !listed {
+            return UNSOUND;
+        }
+        if program.is_empty() || program.len() > PROGRAM_MOST {
+            return PROGRAM_LENGTH;
+        }
+        memory.fill(0);
+        memory[..DIGITS.len()].copy_from_slice(&DIGITS);
+        memory[START..START + program.len()].copy_from_slice(program);
+        picture.fill(0);
+        history.fill(0);
+        0
     }
-    work.write(image);
-    refusal
+
+    /// Never inlined, so that it is measured as a call like the card's own.
+    #[inline(never)]
+    fn step(&self, lent: Lent, keys: u16, random: u8, answer: &mut [u64]) -> u32 {
+        let Ok(answer) = <&mut [u64; ANSWER]>::try_from(answer) else {
+            return LENGTH;
+        };
+        *answer = [0; ANSWER];
+        let Some(lent) = fitting(lent) else {
+            return LENGTH;
+        };
+        let Some(mut work) = Work::read(lent.image, lent.places.len()) else {
+            return UNSOUND;
+        };
+        let refusal = work.step(lent.memory, lent.picture, lent.places, keys, random);
+        if refusal == 0 {
+            work.write(lent.image);
+            answer[0] = 1;
+            answer[1] = work.went_dark;
+        }
+        refusal
+    }
+
+    fn tick(&self, lent: Lent) -> u32 {
+        let image = <&mut Image>::try_from(lent.image);
+        let (Ok(image), Some(places)) = (image, places_of(lent.history)) else {
+            return LENGTH;
+        };
+        let Some(mut work) = Work::read(image, places.len()) else {
+            return UNSOUND;
+        };
+        work.tick(places);
+        work.write(image);
+        0
+    }
+
+    fn back(&self, lent: Lent) -> u32 {
+        let Some(lent) = fitting(lent) else {
+            return LENGTH;
+        };
+        let Some(mut work) = Work::read(lent.image, lent.places.len()) else {
+            return UNSOUND;
+        };
+        let refusal = work.back(lent.memory, lent.picture, lent.places);
+        if refusal == 0 {
+            work.write(lent.image);
+        }
+        refusal
+    }
+
+    fn run(&self, lent: Lent, lists: Lists, answer: &mut [u64]) -> u32 {
+        let Ok(answer) = <&mut [u64; ANSWER]>::try_from(answer) else {
+            return LENGTH;
+        };
+        *answer = [0; ANSWER];
+        let Some(lent) = fitting(lent).filter(|_| lists_fit(lists)) else {
+            return LENGTH;
+        };
+        let Some(mut work) = Work::read(lent.image, lent.places.len()) else {
+            return UNSOUND;
+        };
+        let mut accepted = 0;
+        let mut refusal = 0;
+        for (ticks, keys, random) in entries(lists) {
+            for _ in 0..ticks {
+                work.tick(lent.places);
+            }
+            refusal = work.step(lent.memory, lent.picture, lent.places, keys, random);
+            if refusal != 0 {
+                break;
+            }
+            accepted += 1;
+        }
+        work.write(lent.image);
+        answer[0] = accepted;
+        answer[1] = work.went_dark;
+        refusal
+    }
+
+    fn play(&self, lent: Lent, lists: Lists) -> u32 {
+        let moves = lists.first;
+        let fits = lists_fit(lists) && moves.iter().all(|&made| made <= 2);
+        let Some(lent) = fitting(lent).filter(|_| fits) else {
+            return LENGTH;
+        };
+        let Some(mut work) = Work::read(lent.image, lent.places.len()) else {
+            return UNSOUND;
+        };
+        let mut refusal = 0;
+        for (made, keys, random) in entries(lists) {
+            refusal = match made {
+                0 => work.step(lent.memory, lent.picture, lent.places, keys, random),
+                1 => {
+                    work.tick(lent.places);
+                    0
+                }
+                _ => work.back(lent.memory, lent.picture, lent.places),
+            };
+        }
+        work.write(lent.image);
+        refusal
+    }
 }

@@ -1,24 +1,15 @@
 //! The card's panel beside an independent doubling, dot by dot.
 
-use harness::guard::Guarded;
+use harness::check::check_panel;
 use harness::random::Random;
 use harness::second::PICTURE;
 use harness::{card, dots};
 
-/// Calls both on copies of the same buffers, and compares all that they left.
 fn compare(picture: &[u8], before: &[u8]) -> u32 {
-    let lent = Guarded::new(picture);
-    let mut got = Guarded::new(before);
-    let mut expected = before.to_vec();
-    let refusal = card::panel(lent.contents(), got.lent());
-    assert_eq!(refusal, dots::panel(picture, &mut expected));
-    assert_eq!(got.contents(), expected, "the panel of {picture:02X?}");
-    assert_eq!(lent.contents(), picture, "a write into the picture");
-    assert!(
-        lent.guards_stand() && got.guards_stand(),
-        "a write outside the buffers"
-    );
-    refusal
+    match check_panel(picture, before) {
+        Ok((refusal, _)) => refusal,
+        Err(what) => panic!("{what}: the panel of {picture:02X?}"),
+    }
 }
 
 #[test]

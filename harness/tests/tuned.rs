@@ -1,10 +1,10 @@
 //! The hand-tuned engine is held to the same rules as the card.
 
 use harness::check::check;
-use harness::engine::Tuned;
 use harness::generate;
 use harness::random::Random;
 use harness::tally::Tally;
+use harness::tuned::Tuned;
 
 #[test]
 fn the_tuned_engine_equals_the_second_interpreter() {

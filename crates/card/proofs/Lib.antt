@@ -1,2 +1,3 @@
--- What the calls of the boundary share in their proofs.
+-- What the calls of the boundary share in their proofs, and that their promises are tight.
 pub mod Laws
+pub mod OnlyOne

@@ -6,15 +6,18 @@ use Prim.Native.Nat.{ℕ}
 use lib.ListN.{length}
 use lib.Dec.{eqb}
 use Rattle.rules.specs.declared.Refusal.the-variants.{BufferLength}
-use Rattle.rules.specs.Number.{pick}
+use Rattle.rules.specs.Number.{pick, unless}
 use Rattle.rules.specs.Refusal.{numberOf}
-use Rattle.rules.specs.Load.{load}
 use Rattle.rules.specs.Call.{step, tick, back}
-use Rattle.rules.specs.Run.{run, play}
+use Rattle.rules.specs.Run.{run}
 use Rattle.rules.specs.Dark.{stepDark, runDark}
+use Rattle.rules.specs.State.{sound}
+use Rattle.stepper.specs.Page.{PageOf}
+use Rattle.stepper.specs.Dock.{drawRefusal, pageAfter}
+use Rattle.stepper.specs.Dock.{fits as pageFits}
 use Rattle.panel.specs.Panel.{fits, panelRefusal, panelAfter, PanelOf}
-use Rattle.image.specs.Image.{imageSize}
-use Rattle.imaged.specs.Imaged.{Card, worldOf, shown, whole, partly}
+use Rattle.image.specs.Image.{imageSize, machineOf}
+use Rattle.imaged.specs.Imaged.{Card, worldOf, shown, loadBy, whole, ranOn, playedOn}
 
 abbrev pub sized : List ℕ → Bool
 sized image = eqb (length image) imageSize
@@ -27,9 +30,9 @@ untouched n image memory picture history =
 -- ---- the calls; an image, or an answer, of a wrong length is 9
 
 -- a load leaves the fresh image, refused or not
-unfoldable pub cardLoad : List ℕ → List ℕ → List ℕ → List ℕ → List ℕ → Card
-cardLoad program image memory picture history =
-    pick (sized image) (shown true image (load program memory picture history))
+unfoldable pub cardLoad : List ℕ → ℕ → List ℕ → List ℕ → List ℕ → List ℕ → Card
+cardLoad program edition image memory picture history =
+    pick (sized image) (shown true image (loadBy edition program memory picture history))
     (untouched (numberOf BufferLength) image memory picture history)
 
 unfoldable pub cardStep : ℕ → ℕ → Bool → List ℕ → List ℕ → List ℕ → List ℕ → Card
@@ -49,12 +52,12 @@ cardBack image memory picture history =
 
 unfoldable pub cardRun : List ℕ → List ℕ → List ℕ → Bool → List ℕ → List ℕ → List ℕ → List ℕ → Card
 cardRun ticks keys randoms answers image memory picture history =
-    pick (sized image && answers) (partly image ((run ticks keys randoms (worldOf image memory picture history)) .answer))
+    pick (sized image && answers) (ranOn ticks keys randoms image memory picture history)
     (untouched (numberOf BufferLength) image memory picture history)
 
 unfoldable pub cardPlay : List ℕ → List ℕ → List ℕ → List ℕ → List ℕ → List ℕ → List ℕ → Card
 cardPlay moves keys randoms image memory picture history =
-    pick (sized image) (partly image (play moves keys randoms (worldOf image memory picture history)))
+    pick (sized image) (playedOn moves keys randoms image memory picture history)
     (untouched (numberOf BufferLength) image memory picture history)
 
 -- ---- the answer's four numbers: how many steps were accepted, how many spots they darkened, and two that are kept for what is to come
@@ -76,7 +79,13 @@ unfoldable pub runWentDark : List ℕ → List ℕ → List ℕ → List ℕ →
 runWentDark ticks keys randoms image memory picture history =
     pick (sized image) (runDark ticks keys randoms (worldOf image memory picture history)) 0
 
--- ---- the promise of the panel
+-- ---- the promises of the page and of the panel
+
+-- what the page leaves, for which the image is only read: its number, every byte, and of a page that is drawn every spot
+pub record LeavesPage (n : ℕ) (image before after : List ℕ) : Type 0 where
+  pub says : n ≡ unless (sized image) (numberOf BufferLength) (drawRefusal (machineOf image) before)
+  pub bytes : after ≡ pick (sized image) (pageAfter (machineOf image) before) before
+  pub spots : (sized image && pageFits before && sound (machineOf image)) ≡ true → PageOf (machineOf image) after
 
 -- what the panel leaves, which is lent no image: its number, every byte, and of a panel that is filled every dot
 pub record LeavesPanel (n : ℕ) (picture before after : List ℕ) : Type 0 where

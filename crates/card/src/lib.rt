@@ -1,12 +1,14 @@
 // The C boundary: the library's calls on byte buffers and numbers, for hosts in C and Rust. include/card.h says the same to them.
 // Each call may be handed anything that its types allow, ends, and leaves what the definitions of specs/Card.antt say.
 ghost use mathlib.Core.Path.{_≡_};
+ghost use mathlib.Core.Bool.{true};
 ghost use mathlib.Core.List.{List};
 ghost use Prim.Native.Nat.{ℕ};
 ghost use lib.Dec.{eqb};
 ghost use Rattle.rules.specs.Number.{pick};
-ghost use Rattle.imaged.specs.Imaged.{Leaves};
-ghost use Rattle.card.specs.Card.{answers, answered, LeavesPanel};
+ghost use Rattle.rules.specs.Past.{PlayTells};
+ghost use Rattle.imaged.specs.Imaged.{worldOf, Leaves};
+ghost use Rattle.card.specs.Card.{sized, answers, answered, LeavesPage, LeavesPanel};
 ghost use Rattle.card.specs.Card as spec;
 
 // How many numbers an answer has.
@@ -29,19 +31,20 @@ fn put_answer(answer: &mut [u64], accepted: u64, dark: u64)
 #[no_mangle]
 pub extern "C" fn card_load(
     program: &[u8],
+    edition: u8,
     image: &mut [u8],
     memory: &mut [u8],
     picture: &mut [u8],
     history: &mut [u8],
 ) -> u32
     ensures { λ r. ⌜ Leaves
-        (spec.cardLoad (now (program .entry)) (now (image .entry)) (now (memory .entry)) (now (picture .entry))
+        (spec.cardLoad (now (program .entry)) edition (now (image .entry)) (now (memory .entry)) (now (picture .entry))
         (now (history .entry))) r (now (image .exit)) (now (memory .exit)) (now (picture .exit)) (now (history .exit)) ⌝ }
 {
     if image.len() != image::IMAGE {
         return 9;
     }
-    imaged::load(program, image, memory, picture, history)
+    imaged::load(program, edition, image, memory, picture, history)
 }
 
 #[no_mangle]
@@ -130,7 +133,7 @@ pub extern "C" fn card_run(
     if answer.len() != ANSWER {
         return 9;
     }
-    let told = imaged::run(image, memory, picture, history, ticks, keys, randoms);
+    let told = imaged_lists::run(image, memory, picture, history, ticks, keys, randoms);
     put_answer(answer, told.accepted, told.dark);
     told.number
 }
@@ -149,11 +152,28 @@ pub extern "C" fn card_play(
         (spec.cardPlay (now (moves .entry)) (now (keys .entry)) (now (randoms .entry)) (now (image .entry)) (now (memory .entry))
         (now (picture .entry)) (now (history .entry))) r (now (image .exit)) (now (memory .exit)) (now (picture .exit))
         (now (history .exit)) ⌝ }
+    ensures { λ r. ⌜
+        (sized (now (image .entry)) ≡ true → PlayTells (now (moves .entry)) (now (keys .entry)) (now (randoms .entry))
+        (worldOf (now (image .entry)) (now (memory .entry)) (now (picture .entry)) (now (history .entry)))
+        (worldOf (now (image .exit)) (now (memory .exit)) (now (picture .exit)) (now (history .exit)))) ⌝ }
 {
     if image.len() != image::IMAGE {
         return 9;
     }
-    imaged::play(image, memory, picture, history, moves, keys, randoms)
+    imaged_lists::play(image, memory, picture, history, moves, keys, randoms)
+}
+
+#[no_mangle]
+pub extern "C" fn card_page(image: &[u8], page: &mut [u8]) -> u32
+    ensures { λ r. ⌜ LeavesPage r (now (image .entry)) (now (page .entry)) (now (page .exit)) ⌝ }
+{
+    if image.len() != image::IMAGE {
+        return 9;
+    }
+    let standing = image::read(image);
+    let machine = standing.machine;
+    let outcome = stepper::draw(machine, page);
+    imaged::number(outcome)
 }
 
 #[no_mangle]

@@ -9,9 +9,10 @@ use lib.Dec.{eqb, leb}
 use lib.ListN.{length, getD, drop}
 use lib.Seq.{getD-take, getD-drop}
 use borrow.Author.Tests.{eqb-true, leb-true}
+use Rattle.rules.specs.Number.{same}
 use Rattle.rules.specs.Memory.{part}
 use Rattle.rules.specs.Load.{digits}
-use Rattle.digits.specs.Table.{same, isDigit, areDigits}
+use Rattle.digits.specs.Table.{isDigit, areDigits}
 
 same-true : (a b : List ℕ) → same a b ≡ true → a ≡ b
 same-true [] [] e = refl

@@ -1,17 +1,12 @@
 -- When a table of overlapping bytes, with a start for each digit, is right.
-use mathlib.Core.Bool.{Bool, true, false, _&&_}
+use mathlib.Core.Bool.{Bool, true, _&&_}
 use mathlib.Core.List.{List, [], _∷_}
 use Prim.Native.Nat.{ℕ, suc, _+_, _*_}
-use lib.Dec.{eqb, leb}
+use lib.Dec.{leb}
 use lib.ListN.{length}
+use Rattle.rules.specs.Number.{same}
 use Rattle.rules.specs.Memory.{part}
 use Rattle.rules.specs.Load.{digits}
-
-abbrev pub same : List ℕ → List ℕ → Bool
-same [] [] = true
-same [] (y ∷ b) = false
-same (x ∷ a) [] = false
-same (x ∷ a) (y ∷ b) = eqb x y && same a b
 
 -- five bytes of the table from the start on are the digit k
 abbrev pub isDigit : List ℕ → ℕ → ℕ → Bool

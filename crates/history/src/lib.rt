@@ -7,8 +7,7 @@ ghost use Rattle.history.specs.Restored.{restored};
 ghost use Rattle.rules.specs.Memory.{part};
 ghost use Rattle.rules.specs.State.{stackSize};
 ghost use Rattle.rules.specs.Record.{placeSize, atV, atDepth};
-ghost use Rattle.rules.specs.Record.{byteAt, marked, known, allowed, depthSound, keySound, damaged};
-ghost use Rattle.rules.specs.Record.{changeAt, waitAt, stackAt, machineAt};
+ghost use Rattle.rules.specs.Record.{byteAt, waitAt, stackAt, machineAt};
 pub use keeping::AT_OLD;
 pub use keeping::PLACE;
 use rules::Change;
@@ -22,94 +21,6 @@ pub struct Restored {
     pub damaged: bool,
     pub machine: Machine,
     pub change: Change,
-}
-
-fn depth_at(place: &[u8]) -> u8
-    requires { ⌜ length (now place) ≡ placeSize ⌝ }
-    ensures { λ r. ⌜ r ≡ byteAt (now (place .entry)) atDepth ⌝ }
-{
-    place[keeping::AT_DEPTH]
-}
-
-fn is_marked(place: &[u8], a: u8, b: u8) -> bool
-    requires { ⌜ length (now place) ≡ placeSize ⌝ }
-    ensures { λ r. ⌜ r ≡ marked (now (place .entry)) a b ⌝ }
-{
-    (place[keeping::AT_MARK] == a) & (place[keeping::AT_MARK + 1] == b)
-}
-
-// What the action changed.
-fn change_at(place: &[u8]) -> Change
-    requires { ⌜ length (now place) ≡ placeSize ⌝ }
-    ensures { λ r. ⌜ r ≡ changeAt (now (place .entry)) ⌝ }
-{
-    let start = memory::word_at(place, keeping::AT_START);
-    let count = memory::word_at(place, keeping::AT_COUNT);
-    if is_marked(place, b'M', b'E') {
-        return Change::InMemory(start, count);
-    }
-    if is_marked(place, b'D', b'I') {
-        return Change::InPicture(start, count);
-    }
-    Change::Nothing
-}
-
-// The change is no longer than its mark allows, and inside its buffer.
-fn is_allowed(c: Change) -> bool
-    ensures { λ r. ⌜ r ≡ allowed c ⌝ }
-{
-    match c {
-        Change::Nothing => true,
-        Change::InMemory(s, n) => (1 <= n)
-            & (n <= 16)
-            & (s as usize + n as usize <= Machine::MEMORY),
-        Change::InPicture(s, n) => (1 <= n)
-            & (n as usize <= Machine::PICTURE)
-            & (s as usize + n as usize <= Machine::PICTURE),
-    }
-}
-
-// The mark is known, and NO has no start and no count.
-fn is_known(place: &[u8]) -> bool
-    requires { ⌜ length (now place) ≡ placeSize ⌝ }
-    ensures { λ r. ⌜ r ≡ known (now (place .entry)) ⌝ }
-{
-    let start = memory::word_at(place, keeping::AT_START);
-    let count = memory::word_at(place, keeping::AT_COUNT);
-    is_marked(place, b'M', b'E')
-        | is_marked(place, b'D', b'I')
-        | (is_marked(place, b'N', b'O') & (start == 0) & (count == 0))
-}
-
-// At most one away from the present depth; an empty stack has no return address.
-fn depth_sound(place: &[u8], present: u8) -> bool
-    requires { ⌜ length (now place) ≡ placeSize ⌝ }
-    ensures { λ r. ⌜ r ≡ depthSound (now (place .entry)) present ⌝ }
-{
-    let depth = depth_at(place);
-    let last = memory::word_at(place, keeping::AT_LAST);
-    (depth as usize <= Machine::STACK)
-        & (depth as u16 <= present as u16 + 1)
-        & (present as u16 <= depth as u16 + 1)
-        & (!(depth == 0) | (last == 0))
-}
-
-fn key_sound(place: &[u8]) -> bool
-    requires { ⌜ length (now place) ≡ placeSize ⌝ }
-    ensures { λ r. ⌜ r ≡ keySound (now (place .entry)) ⌝ }
-{
-    (place[keeping::AT_HELD] <= 15) | (place[keeping::AT_HELD] == 0xFF)
-}
-
-// Whether a record is damaged, beside a state of the present depth.
-pub fn is_damaged(place: &[u8], present: u8) -> bool
-    requires { ⌜ length (now place) ≡ placeSize ⌝ }
-    ensures { λ r. ⌜ r ≡ damaged (now (place .entry)) present ⌝ }
-{
-    !(is_known(place)
-        & is_allowed(change_at(place))
-        & depth_sound(place, present)
-        & key_sound(place))
 }
 
 fn wait_at(place: &[u8]) -> Wait
@@ -161,7 +72,7 @@ fn stack_at(place: &[u8], stack: [u16; Machine::STACK]) -> [u16; Machine::STACK]
     requires { ⌜ byteAt (now place) atDepth ≤ stackSize ⌝ }
     ensures { λ r. ⌜ r ≡ stackAt (now (place .entry)) stack ⌝ }
 {
-    let depth = depth_at(place) as usize;
+    let depth = damage::depth_at(place) as usize;
     let top = less_one(depth);
     let mut s = stack;
     s[top] = memory::word_at(place, keeping::AT_LAST);
@@ -183,7 +94,7 @@ fn machine_at(place: &[u8], m: Machine) -> Machine
         i: memory::word_at(place, keeping::AT_I),
         pc: memory::word_at(place, keeping::AT_PC),
         stack,
-        depth: depth_at(place),
+        depth: damage::depth_at(place),
         timers: Timers {
             delay: place[keeping::AT_DELAY],
             tone: place[keeping::AT_TONE],
@@ -198,7 +109,7 @@ pub fn read(place: &[u8], present: Machine) -> Restored
     requires { ⌜ length (now place) ≡ placeSize ⌝ }
     ensures { λ r. ⌜ r ≡ restored (now (place .entry)) present ⌝ }
 {
-    if is_damaged(place, present.depth) {
+    if damage::is_damaged(place, present.depth) {
         return Restored {
             damaged: true,
             machine: present,
@@ -206,7 +117,7 @@ pub fn read(place: &[u8], present: Machine) -> Restored
         };
     }
     let machine = machine_at(place, present);
-    let change = change_at(place);
+    let change = damage::change_at(place);
     Restored {
         damaged: false,
         machine,

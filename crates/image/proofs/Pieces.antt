@@ -1,11 +1,11 @@
 -- What stands in an image after a store, a call or a turn of the loop, and at the end.
-use mathlib.Core.Path.{_≡_, refl}
+use mathlib.Core.Path.{_≡_, refl, sym, _∙_}
 use mathlib.Core.List.{List, [], _∷_, _++_, append-assoc, append-nil}
 use Prim.Native.Nat.{ℕ, zero, suc, _+_, _-_, _*_, _/_, _%_, _<_, _≤_}
 use native.Mathlib.Numerals.{add-one}
 use native.Mathlib.Omega.{arith}
-use lib.ListN.{length, length-set, getD, set, take, replicate}
-use lib.Seq.{take-suc-set}
+use lib.ListN.{length, length-set, getD, set, take}
+use lib.Seq.{take-suc-set, take-length}
 use Rattle.rules.specs.Number.{word}
 use Rattle.rules.specs.Memory.{over}
 use Rattle.rules.proofs.Laid.{behind}
@@ -54,9 +54,9 @@ pub entries-all : (s : List ℕ) {l₀ l : List ℕ} (k : ℕ) → k ≡ 12 → 
     → Stands (sixFrom 0 s ++ sixFrom 6 s) l₀ 24 l 48
 entries-all s k e p = rw e at p
 
--- all pieces, and zeros behind them
-pub image-laid : (a b : List ℕ) {v m n l p q r s t : List ℕ} → Stands v l 0 p 16 → Stands m p 16 q 24 → Stands (a ++ b) q 24 r 48 → Stands n r 48 s 52
-    → length s ≡ 64 → t ≡ take 52 s ++ replicate (length s - 52) 0
-    → t ≡ v ++ m ++ a ++ b ++ n ++ replicate 12 0
-image-laid a b {v} {m} hv hm hab hn size ht =
-    rw (ht, size, hn .front, hab .front, hm .front, hv .front, ← append-assoc (v ++ m) a b)
+-- all pieces, to the end
+pub image-laid : (a b : List ℕ) {v m n e l p q r s t : List ℕ} → Stands v l 0 p 16 → Stands m p 16 q 24 → Stands (a ++ b) q 24 r 48
+    → Stands n r 48 s 52 → Stands e s 52 t 64 → length t ≡ 64 → t ≡ v ++ m ++ a ++ b ++ n ++ e
+image-laid a b {v} {m} {t = t} hv hm hab hn he size =
+    let all : take 64 t ≡ t = rw size at (take-length t) in
+    sym all ∙ rw (he .front, hn .front, hab .front, hm .front, hv .front, ← append-assoc (v ++ m) a b)

@@ -1,19 +1,21 @@
 -- The image of a state: 64 bytes, numbers with their high byte first.
 use mathlib.Core.Path.{_≡_}
-use mathlib.Core.Bool.{true}
+use mathlib.Core.Bool.{Bool, true, _&&_}
 use mathlib.Core.List.{List, [], _∷_, _++_}
-use Prim.Native.Nat.{ℕ, _+_}
+use Prim.Native.Nat.{ℕ, _+_, _<_}
 use lib.ListN.{getD, length, drop, replicate}
-use lib.Dec.{eqb}
+use lib.Dec.{eqb, leb}
+use Rattle.rules.specs.declared.Edition.{Edition}
+use Rattle.rules.specs.declared.Edition.the-variants.{First, Second}
 use Rattle.rules.specs.declared.Machine.{Machine}
 use Rattle.rules.specs.declared.Trail.{Trail}
 use Rattle.rules.specs.declared.Wait.{Wait}
 use Rattle.rules.specs.declared.Wait.the-variants.{Idle, Held}
 use Rattle.rules.specs.Number.{pick, word}
-use Rattle.rules.specs.State.{zeros}
+use Rattle.rules.specs.State.{zeros, sound}
 use Rattle.rules.specs.Memory.{part}
 use Rattle.rules.specs.Record.{byteAt, wordAt, heldByte}
-use Rattle.rules.specs.Typed.{Below}
+use Rattle.rules.specs.Typed.{Below, TypedMachine}
 
 abbrev pub imageSize : ℕ
 imageSize = 64
@@ -35,9 +37,16 @@ sixFrom k s = six (getD s k 0) (getD s (k + 1) 0) (getD s (k + 2) 0) (getD s (k 
 abbrev pub numbers : Trail → List ℕ
 numbers t = word (t .next) ++ word (t .kept)
 
--- 52: zeros, kept for what is to come
+-- 52: the edition, 0 for the first and 1 for the second, and zeros, kept for what is to come
+abbrev pub editionByte : Edition → ℕ
+editionByte First = 0
+editionByte Second = 1
+
+abbrev pub tail : Machine → List ℕ
+tail m = editionByte (m .edition) ∷ replicate 11 0
+
 unfoldable pub imageOf : Machine → Trail → List ℕ
-imageOf m t = m .v ++ middle m ++ sixFrom 0 (m .stack) ++ sixFrom 6 (m .stack) ++ numbers t ++ replicate 12 0
+imageOf m t = m .v ++ middle m ++ sixFrom 0 (m .stack) ++ sixFrom 6 (m .stack) ++ numbers t ++ tail m
 
 -- ---- from an image to the state that it stands for
 
@@ -49,9 +58,16 @@ stackOf b =
     wordAt b 24 ∷ wordAt b 26 ∷ wordAt b 28 ∷ wordAt b 30 ∷ wordAt b 32 ∷ wordAt b 34
     ∷ wordAt b 36 ∷ wordAt b 38 ∷ wordAt b 40 ∷ wordAt b 42 ∷ wordAt b 44 ∷ wordAt b 46 ∷ []
 
--- an image that does not end in zeros stands for an unsound state: its depth is 255
+abbrev pub editionOf : ℕ → Edition
+editionOf b = pick (eqb b 1) Second First
+
+-- an image is in order if its edition is one of the two and the bytes behind it are 0
+abbrev pub inOrder : List ℕ → Bool
+inOrder b = leb (byteAt b 52) 1 && zeros (drop 53 b)
+
+-- one that is not stands for an unsound state: its depth is 255
 abbrev pub depthOf : List ℕ → ℕ
-depthOf b = pick (zeros (drop 52 b)) (byteAt b 20) 255
+depthOf b = pick (inOrder b) (byteAt b 20) 255
 
 unfoldable pub machineOf : List ℕ → Machine
 machineOf b =
@@ -63,13 +79,26 @@ machineOf b =
       depth = depthOf b;
       timers = record { delay = byteAt b 21; tone = byteAt b 22 };
       wait = waitOf (byteAt b 23);
+      edition = editionOf (byteAt b 52);
     }
 
 unfoldable pub trailOf : List ℕ → Trail
 trailOf b = record { next = wordAt b 48; kept = wordAt b 50 }
 
--- ---- THE CLAIM, proved in proofs/ReadsBack.antt: an image that is read and written again is the same bytes
+-- ---- THE CLAIMS, proved in proofs/ReadsBack.antt
 
+-- an image that is read and written again is the same bytes
 abbrev pub ReadsBack : Type 0
 ReadsBack =
-    (b : List ℕ) → length b ≡ imageSize → Below 256 b → zeros (drop 52 b) ≡ true → imageOf (machineOf b) (trailOf b) ≡ b
+    (b : List ℕ) → length b ≡ imageSize → Below 256 b → inOrder b ≡ true → imageOf (machineOf b) (trailOf b) ≡ b
+
+-- a state that its image holds whole: its numbers are ones that their types hold, it is sound, and next and kept are numbers of two bytes
+pub record Storable (m : Machine) (t : Trail) : Type 0 where
+  pub typed : TypedMachine m
+  pub sound : sound m ≡ true
+  pub next : t .next < 65536
+  pub kept : t .kept < 65536
+
+-- such a state that is written and read again is the same state
+abbrev pub ComesBack : Type 0
+ComesBack = (m : Machine) (t : Trail) → Storable m t → (machineOf (imageOf m t) ≡ m) × (trailOf (imageOf m t) ≡ t)

@@ -6,8 +6,10 @@ ghost use lib.ListN.{drop, length};
 ghost use Rattle.rules.specs.Number.{pick, word};
 ghost use Rattle.rules.specs.State.{zeros};
 ghost use Rattle.rules.specs.Memory.{part};
-ghost use Rattle.image.specs.Image.{imageSize, middle, sixFrom, numbers, imageOf, waitOf, stackOf, machineOf, trailOf};
+ghost use Rattle.image.specs.Image.{imageSize, middle, sixFrom, numbers, editionByte, tail, imageOf};
+ghost use Rattle.image.specs.Image.{waitOf, stackOf, editionOf, inOrder, machineOf, trailOf};
 ghost use Rattle.image.specs.Laid.{Stands};
+use rules::Edition;
 use rules::Machine;
 use rules::Timers;
 use rules::Trail;
@@ -27,9 +29,9 @@ pub struct Standing {
 // Whether the bytes that are kept for later are 0.
 fn ends_clear(image: &[u8]) -> bool
     requires { ⌜ length (now image) ≡ imageSize ⌝ }
-    ensures { λ r. ⌜ r ≡ zeros (drop 52 (now (image .entry))) ⌝ }
+    ensures { λ r. ⌜ r ≡ zeros (drop 53 (now (image .entry))) ⌝ }
 {
-    let mut k = 52;
+    let mut k = 53;
     while k < IMAGE {
         if image[k] != 0 {
             return false;
@@ -37,6 +39,14 @@ fn ends_clear(image: &[u8]) -> bool
         k += 1;
     }
     true
+}
+
+// Whether the edition is one of the two, and all behind it 0. An image that is not in order stands for no sound state.
+pub fn in_order(image: &[u8]) -> bool
+    requires { ⌜ length (now image) ≡ imageSize ⌝ }
+    ensures { λ r. ⌜ r ≡ inOrder (now (image .entry)) ⌝ }
+{
+    (image[52] <= 1) & ends_clear(image)
 }
 
 fn registers_in(image: &[u8]) -> [u8; 16]
@@ -48,7 +58,7 @@ fn registers_in(image: &[u8]) -> [u8; 16]
     v
 }
 
-fn stack_in(image: &[u8]) -> [u16; 12]
+fn stack_in(image: &[u8]) -> [u16; Machine::STACK]
     requires { ⌜ length (now image) ≡ imageSize ⌝ }
     ensures { λ r. ⌜ r ≡ stackOf (now (image .entry)) ⌝ }
 {
@@ -78,11 +88,21 @@ fn wait_of(byte: u8) -> Wait
     }
 }
 
-// The depth; 255, which no sound state has, where the image does not end in zeros.
-fn depth_of(clear: bool, byte: u8) -> u8
-    ensures { λ r. ⌜ r ≡ pick clear byte 255 ⌝ }
+pub fn edition_of(byte: u8) -> Edition
+    ensures { λ r. ⌜ r ≡ editionOf byte ⌝ }
 {
-    if clear { byte } else { 255 }
+    if byte == 1 {
+        Edition::Second
+    } else {
+        Edition::First
+    }
+}
+
+// The depth; 255, which no sound state has, where the image is not in order.
+fn depth_of(order: bool, byte: u8) -> u8
+    ensures { λ r. ⌜ r ≡ pick order byte 255 ⌝ }
+{
+    if order { byte } else { 255 }
 }
 
 fn machine_in(image: &[u8]) -> Machine
@@ -100,9 +120,10 @@ fn machine_in(image: &[u8]) -> Machine
         i: memory::word_at(image, 16),
         pc: memory::word_at(image, 18),
         stack,
-        depth: depth_of(ends_clear(image), image[20]),
+        depth: depth_of(in_order(image), image[20]),
         timers,
         wait: wait_of(image[23]),
+        edition: edition_of(image[52]),
     }
 }
 
@@ -144,6 +165,22 @@ fn middle_of(m: Machine) -> [u8; 8]
     ]
 }
 
+fn edition_byte(edition: Edition) -> u8
+    ensures { λ r. ⌜ r ≡ editionByte edition ⌝ }
+{
+    match edition {
+        Edition::First => 0,
+        Edition::Second => 1,
+    }
+}
+
+fn tail_of(m: Machine) -> [u8; 12]
+    ensures { λ r. ⌜ r ≡ tail m ⌝ }
+{
+    let edition = m.edition;
+    [edition_byte(edition), 0, 0, 0, 0, 0, 0, 0, 0, 0, 0, 0]
+}
+
 // The variables and the stack come by value, so that they can't lie where they are written.
 fn lay_variables(image: &mut [u8], v: [u8; 16])
     requires { ⌜ length (now image) ≡ imageSize ⌝ }
@@ -170,12 +207,12 @@ fn put_word(image: &mut [u8], at: usize, n: u16)
     image[at + 1] = memory::low(n);
 }
 
-fn lay_stack(image: &mut [u8], stack: [u16; 12])
+fn lay_stack(image: &mut [u8], stack: [u16; Machine::STACK])
     requires { ⌜ length (now image) ≡ imageSize ⌝ }
     ensures { λ _. ⌜ Stands (sixFrom 0 stack ++ sixFrom 6 stack) (now (image .entry)) 24 (now (image .exit)) 48 ⌝ }
 {
     let mut k = 0;
-    while k < 12 {
+    while k < Machine::STACK {
         put_word(image, 24 + 2 * k, stack[k]);
         k += 1;
     }
@@ -189,6 +226,15 @@ fn lay_numbers(image: &mut [u8], t: Trail)
     put_word(image, 50, (t.kept % 65536) as u16);
 }
 
+// The edition, and zeros to the end.
+fn lay_tail(image: &mut [u8], m: Machine)
+    requires { ⌜ length (now image) ≡ imageSize ⌝ }
+    ensures { λ _. ⌜ Stands (tail m) (now (image .entry)) 52 (now (image .exit)) 64 ⌝ }
+{
+    let tail = tail_of(m);
+    memory::lay(image, 52, &tail);
+}
+
 // Writes the image of a state and its numbers.
 pub fn write(image: &mut [u8], m: Machine, t: Trail)
     requires { ⌜ length (now image) ≡ imageSize ⌝ }
@@ -200,5 +246,5 @@ pub fn write(image: &mut [u8], m: Machine, t: Trail)
     lay_middle(image, m);
     lay_stack(image, stack);
     lay_numbers(image, t);
-    memory::clear(image, 52);
+    lay_tail(image, m);
 }

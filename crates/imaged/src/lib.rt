@@ -1,21 +1,27 @@
-// The library's calls on a machine that stands in an image of the right length: it is read, the call is made, and what the call gave is
-// written back.
+// The library's single calls on a machine that stands in an image of the right length: it is read, the call is made, and what the call
+// gave is written back. A run and a play stand in `imaged_lists`.
 ghost use mathlib.Core.Path.{_≡_};
-ghost use mathlib.Core.Bool.{true, not, _||_};
+ghost use mathlib.Core.Bool.{true};
 ghost use mathlib.Core.List.{List};
 ghost use Prim.Native.Nat.{ℕ};
 ghost use lib.Dec.{eqb};
 ghost use lib.ListN.{length};
-ghost use Rattle.rules.specs.Number.{pick};
+ghost use Rattle.rules.specs.declared.Edition.the-variants.{First};
+ghost use Rattle.rules.specs.Number.{pick, unless};
 ghost use Rattle.rules.specs.Refusal as refusal;
+ghost use Rattle.rules.specs.State.{fresh};
+ghost use Rattle.rules.specs.World.{sizesFit};
+ghost use Rattle.rules.specs.Load.{freshTrail};
 ghost use Rattle.rules.specs.Load as rules_load;
 ghost use Rattle.rules.specs.Call as rules_call;
-ghost use Rattle.rules.specs.Run as rules_run;
-ghost use Rattle.rules.specs.Dark.{stepDark, runDark};
+ghost use Rattle.rules.specs.Dark.{stepDark};
 ghost use Rattle.image.specs.Image.{imageSize, imageOf};
-ghost use Rattle.imaged.specs.Imaged.{worldOf, shown, whole, partly, Leaves};
+ghost use Rattle.imaged.specs.Imaged.{worldOf, shown, loadBy, whole, Leaves};
 use parts::Answer;
+use rules::Edition;
+use rules::Machine;
 use rules::Outcome;
+use rules::Trail;
 
 // What a step and a run tell besides the bytes: the refusal number or 0, the accepted steps, and the lit spots that they darkened.
 pub struct Told {
@@ -58,27 +64,11 @@ fn after_call(image: &mut [u8], answer: Answer) -> u32
     n
 }
 
-// A run and a play keep what they did before a refused step: only where they are refused themselves is the image left.
-fn after_list(image: &mut [u8], answer: Answer) -> u32
-    requires { ⌜ length (now image) ≡ imageSize ⌝ }
-    ensures { λ r. ⌜ (r ≡ refusal.number (answer .outcome)) × (now (image .exit) ≡ pick
-        (not (eqb (refusal.number (answer .outcome)) 9 || eqb (refusal.number (answer .outcome)) 10))
-        (imageOf (answer .machine) (answer .trail)) (now (image .entry))) ⌝ }
-{
-    let outcome = answer.outcome;
-    let n = number(outcome);
-    if !((n == 9) | (n == 10)) {
-        let machine = answer.machine;
-        let trail = answer.trail;
-        image::write(image, machine, trail);
-    }
-    n
-}
-
 // ---- the calls
 
 // A load leaves the fresh image, refused or not.
-pub fn load(
+fn load_known(
+    edition: Edition,
     program: &[u8],
     image: &mut [u8],
     memory: &mut [u8],
@@ -88,15 +78,61 @@ pub fn load(
     requires { ⌜ length (now image) ≡ imageSize ⌝ }
     ensures { λ r. ⌜ Leaves
         (shown true (now (image .entry))
-        (rules_load.load (now (program .entry)) (now (memory .entry)) (now (picture .entry)) (now (history .entry)))) r
+        (rules_load.load edition (now (program .entry)) (now (memory .entry)) (now (picture .entry)) (now (history .entry)))) r
         (now (image .exit)) (now (memory .exit)) (now (picture .exit)) (now (history .exit)) ⌝ }
 {
-    let answer = chip8::load(program, memory, picture, history);
+    let answer = chip8::load(edition, program, memory, picture, history);
     let m = answer.machine;
     let t = answer.trail;
     image::write(image, m, t);
     let outcome = answer.outcome;
     number(outcome)
+}
+
+// An edition that there is not: 9 comes before 10, and the fresh image is of the first edition.
+fn load_unknown(image: &mut [u8], memory: &[u8], picture: &[u8], history: &[u8]) -> u32
+    requires { ⌜ length (now image) ≡ imageSize ⌝ }
+    ensures { λ r. ⌜ (r ≡ unless (sizesFit (now (memory .entry)) (now (picture .entry)) (now (history .entry))) 9 10)
+        × (now (image .exit) ≡ imageOf (fresh First) freshTrail) ⌝ }
+{
+    image::write(
+        image,
+        Machine::fresh(Edition::First),
+        Trail { next: 0, kept: 0 },
+    );
+    if judge::sizes_fit(memory, picture, history) {
+        10
+    } else {
+        9
+    }
+}
+
+// A load of the edition that a byte names.
+pub fn load(
+    program: &[u8],
+    edition: u8,
+    image: &mut [u8],
+    memory: &mut [u8],
+    picture: &mut [u8],
+    history: &mut [u8],
+) -> u32
+    requires { ⌜ length (now image) ≡ imageSize ⌝ }
+    ensures { λ r. ⌜ Leaves
+        (shown true (now (image .entry))
+        (loadBy edition (now (program .entry)) (now (memory .entry)) (now (picture .entry)) (now (history .entry)))) r
+        (now (image .exit)) (now (memory .exit)) (now (picture .exit)) (now (history .exit)) ⌝ }
+{
+    if 1 < edition {
+        return load_unknown(image, memory, picture, history);
+    }
+    load_known(
+        image::edition_of(edition),
+        program,
+        image,
+        memory,
+        picture,
+        history,
+    )
 }
 
 pub fn step(
@@ -162,70 +198,4 @@ pub fn back(image: &mut [u8], memory: &mut [u8], picture: &mut [u8], history: &[
     let m = before.machine;
     let t = before.trail;
     after_call(image, chip8::back(m, t, memory, picture, history))
-}
-
-pub fn run(
-    image: &mut [u8],
-    memory: &mut [u8],
-    picture: &mut [u8],
-    history: &mut [u8],
-    ticks: &[u8],
-    keys: &[u16],
-    randoms: &[u8],
-) -> Told
-    requires { ⌜ length (now image) ≡ imageSize ⌝ }
-    ensures { λ r. ⌜ Leaves
-        (partly (now (image .entry))
-        (
-        (rules_run.run (now (ticks .entry)) (now (keys .entry)) (now (randoms .entry))
-        (worldOf (now (image .entry)) (now (memory .entry)) (now (picture .entry)) (now (history .entry)))) .answer)) (r .number)
-        (now (image .exit)) (now (memory .exit)) (now (picture .exit)) (now (history .exit)) ⌝ }
-    ensures { λ r. ⌜ (r .accepted ≡ (rules_run.run (now (ticks .entry)) (now (keys .entry)) (now (randoms .entry))
-        (worldOf (now (image .entry)) (now (memory .entry)) (now (picture .entry)) (now (history .entry)))) .accepted)
-        × (r .dark ≡ runDark (now (ticks .entry)) (now (keys .entry)) (now (randoms .entry))
-        (worldOf (now (image .entry)) (now (memory .entry)) (now (picture .entry)) (now (history .entry)))) ⌝ }
-{
-    let before = image::read(image);
-    let m = before.machine;
-    let t = before.trail;
-    let ran = chip8::run(m, t, memory, picture, history, ticks, keys, randoms);
-    let outcome = ran.outcome;
-    let machine = ran.machine;
-    let trail = ran.trail;
-    let n = after_list(
-        image,
-        Answer {
-            outcome,
-            machine,
-            trail,
-        },
-    );
-    Told {
-        number: n,
-        accepted: ran.accepted as u64,
-        dark: ran.dark as u64,
-    }
-}
-
-pub fn play(
-    image: &mut [u8],
-    memory: &mut [u8],
-    picture: &mut [u8],
-    history: &mut [u8],
-    moves: &[u8],
-    keys: &[u16],
-    randoms: &[u8],
-) -> u32
-    requires { ⌜ length (now image) ≡ imageSize ⌝ }
-    ensures { λ r. ⌜ Leaves
-        (partly (now (image .entry))
-        (rules_run.play (now (moves .entry)) (now (keys .entry)) (now (randoms .entry))
-        (worldOf (now (image .entry)) (now (memory .entry)) (now (picture .entry)) (now (history .entry))))) r
-        (now (image .exit)) (now (memory .exit)) (now (picture .exit)) (now (history .exit)) ⌝ }
-{
-    let before = image::read(image);
-    let m = before.machine;
-    let t = before.trail;
-    let answer = chip8::play(m, t, memory, picture, history, moves, keys, randoms);
-    after_list(image, answer)
 }

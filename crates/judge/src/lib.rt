@@ -1,29 +1,23 @@
-// What is tested before anything is written: lengths, soundness, and what the instruction needs.
+// The tests 9 and 10, which come before everything else: lengths, and a sound state with its numbers in range.
 ghost use mathlib.Core.Path.{_≡_};
 ghost use mathlib.Core.Bool.{_&&_};
-ghost use mathlib.Core.List.{List};
-ghost use Prim.Native.Nat.{ℕ, _≤_};
+ghost use Prim.Native.Nat.{_≤_};
+ghost use lib.Dec.{eqb, leb};
 ghost use lib.ListN.{drop};
 ghost use Rattle.rules.specs.declared.Refusal.the-variants.{BufferLength, Unsound};
 ghost use Rattle.rules.specs.Number.{unless};
 ghost use Rattle.rules.specs.Refusal.{numberOf, number};
 ghost use Rattle.rules.specs.State as state;
-ghost use Rattle.rules.specs.Step as rule;
 ghost use Rattle.rules.specs.World as fit;
 ghost use Rattle.rules.specs.World.{world};
 ghost use Rattle.rules.specs.Typed.{Below, TypedMachine};
 ghost use Rattle.rules.specs.declared.Outcome.the-variants.{Done};
 ghost use Rattle.rules.proofs.Ready.{Ready};
-ghost use Rattle.parts.specs.Whole.{whole};
-use parts::Core;
 use rules::Machine;
-use rules::Op;
 use rules::Outcome;
 use rules::Refusal;
 use rules::Trail;
 use rules::Wait;
-
-// ---- the tests 9 and 10
 
 // R
 pub fn places(history: &[u8]) -> usize
@@ -97,6 +91,13 @@ pub fn soundly(m: Machine, t: Trail, history: &[u8]) -> bool
     is_sound(m) & trail_fits(t, history)
 }
 
+// A run's or a play's lists: three lengths that are equal, at most 4,096.
+pub fn lists_fit(a: usize, b: usize, c: usize) -> bool
+    ensures { λ r. ⌜ r ≡ (eqb a b && eqb b c && leb a 4096) ⌝ }
+{
+    (a == b) & (b == c) & (a <= 4096)
+}
+
 // 9, then 10.
 pub fn tested(fits: bool, sound: bool) -> Outcome
     ensures { λ r. ⌜ number r ≡ unless fits (numberOf BufferLength) (unless sound (numberOf Unsound) 0) ⌝ }
@@ -127,49 +128,4 @@ pub fn admitted(
 {
     let fits = sizes_fit(memory, picture, history) & lists;
     tested(fits, soundly(m, t, history))
-}
-
-// ---- what the instruction needs
-
-// Whether the n bytes from I on are in memory.
-fn past(c: Core, n: usize) -> Outcome
-    requires { ⌜ n ≤ 256 ⌝ }
-    ensures { λ r. ⌜ ((v stack : List ℕ) → number r ≡ rule.past (whole c v stack) n) ⌝ }
-{
-    if n == 0 {
-        return Outcome::Done;
-    }
-    if c.i as usize + n <= Machine::MEMORY {
-        return Outcome::Done;
-    }
-    Outcome::Refused(Refusal::MemoryPastEnd)
-}
-
-// 2 or 3, then 4, 5 or 6.
-pub fn judged(op: Op, c: Core) -> Outcome
-    ensures { λ r. ⌜ ((v stack : List ℕ) → number r ≡ rule.refusalOf op (whole c v stack)) ⌝ }
-{
-    match op {
-        Op::Plain(_) => Outcome::Done,
-        Op::AwaitKey(_) => Outcome::Done,
-        Op::Call(_) => {
-            if (c.depth as usize) < Machine::STACK {
-                return Outcome::Done;
-            }
-            Outcome::Refused(Refusal::StackFull)
-        }
-        Op::Return => {
-            if 0 < c.depth {
-                return Outcome::Done;
-            }
-            Outcome::Refused(Refusal::StackEmpty)
-        }
-        Op::Clear => Outcome::Done,
-        Op::Draw(_, _, n) => past(c, n as usize),
-        Op::Decimal(_) => past(c, 3),
-        Op::Store(x) => past(c, registers::up_to(x)),
-        Op::Fetch(x) => past(c, registers::up_to(x)),
-        Op::Unlisted => Outcome::Refused(Refusal::Unlisted),
-        Op::MachineCode => Outcome::Refused(Refusal::MachineCode),
-    }
 }

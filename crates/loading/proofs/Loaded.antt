@@ -3,11 +3,13 @@ use mathlib.Core.Path.{_≡_, refl, sym, ap, ap₂, _∙_}
 use mathlib.Core.Bool.{_&&_, and-eq-true-iff}
 use mathlib.Core.List.{List, _++_, append-assoc}
 use Prim.Native.Nat.{ℕ, _+_, _-_, _≤_}
+use native.Mathlib.Nat.{sub-zero}
 use lib.ListN.{length, take, drop, replicate, length-append, length-replicate, replicate-append-replicate}
 use lib.Seq.{take-at, drop-append-add}
 use lib.Dec.{leb}
 use borrow.Author.Tests.{leb-true}
 use Rattle.rules.specs.declared.Edition.{Edition}
+use Rattle.rules.specs.declared.Edition.the-variants.{First}
 use Rattle.rules.specs.declared.Refusal.{Refusal}
 use Rattle.rules.specs.declared.Outcome.the-variants.{Done, Refused}
 use Rattle.rules.specs.Refusal.{number}
@@ -18,7 +20,7 @@ use Rattle.rules.specs.Load.{digits, freshTrail, freshWorld, loaded, loadedMemo
 use Rattle.rules.specs.Promise.{Gives}
 use Rattle.rules.proofs.Choices.{passed}
 use Rattle.rules.proofs.Parts.{zeroes, drop-zeros}
-use Rattle.rules.proofs.Ready.{Passed, fits-passed}
+use Rattle.rules.proofs.Ready.{fits-passed}
 use Rattle.rules.proofs.Given.{given-refused, answered-done}
 
 -- ---- memory: the digits, zeros to the end, and the program laid over them
@@ -52,6 +54,24 @@ laid-out program memory₀ memory₁ memory₂ memory₃ size laid clear last =
 
 -- ---- the call
 
+-- an accepted load has room
+pub record Room (program mem pic : List ℕ) : Type 0 where
+  pub memory : length mem ≡ 4096
+  pub picture : length pic ≡ 256
+  pub short : length program ≤ 3584
+
+pub load-room : (program memory picture history : List ℕ) → loadRefusal program memory picture history ≡ 0 → Room program memory picture
+unfolding loadRefusal
+load-room program memory picture history e =
+    let first = passed (sizesFit memory picture history) 8 _ e in
+    let second = passed (leb 1 (length program) && leb (length program) 3584) 7 0 (first .1) in
+    let sizes = fits-passed (freshWorld First memory picture history) (first .0) in
+    record {
+      memory = sizes .memory;
+      picture = sizes .picture;
+      short = leb-true _ _ (and-eq-true-iff (leb 1 (length program)) (leb (length program) 3584) .0 (second .0) .1);
+    }
+
 module _ (edition : Edition) (program memory picture history : List ℕ) where
   pub load-refused : (r : Refusal) → number (Refused r) ≡ loadRefusal program memory picture history
       → Gives (load edition program memory picture history) (Refused r) (fresh edition) freshTrail memory picture history
@@ -59,24 +79,18 @@ module _ (edition : Edition) (program memory picture history : List ℕ) where
   load-refused r e =
       given-refused (loadRefusal program memory picture history) (loaded edition program history) (freshWorld edition memory picture history) r e
 
-  pub record Room : Type 0 where
-    pub sizes : Passed (freshWorld edition memory picture history)
-    pub short : length program ≤ 3584
-
-  pub load-room : loadRefusal program memory picture history ≡ 0 → Room
-  unfolding loadRefusal
-  load-room e =
-      let first = passed (sizesFit memory picture history) 8 _ e in
-      let second = passed (leb 1 (length program) && leb (length program) 3584) 7 0 (first .1) in
-      record {
-        sizes = fits-passed (freshWorld edition memory picture history) (first .0);
-        short = leb-true _ _ (and-eq-true-iff (leb 1 (length program)) (leb (length program) 3584) .0 (second .0) .1);
-      }
-
+  -- the picture and the history are cleared from their first byte on
   pub load-gives : loadRefusal program memory picture history ≡ 0 → (mem pic his : List ℕ) → mem ≡ loadedMemory program
-      → pic ≡ replicate (length picture) 0 → his ≡ replicate (length history) 0
+      → pic ≡ take 0 picture ++ replicate (length picture - 0) 0 → his ≡ take 0 history ++ replicate (length history - 0) 0
       → Gives (load edition program memory picture history) Done (fresh edition) freshTrail mem pic his
   unfolding load
   load-gives e mem pic his em ep eh =
       rw (answered-done (loadRefusal program memory picture history) (loaded edition program history) (freshWorld edition memory picture history) e)
-      (record { says = refl; machine = refl; trail = refl; memory = em; picture = rw ((load-room e) .sizes .picture) at ep; history = eh })
+      (record {
+        says = refl;
+        machine = refl;
+        trail = refl;
+        memory = em;
+        picture = rw (sub-zero, (load-room program memory picture history e) .picture) at ep;
+        history = rw sub-zero at eh;
+      })

@@ -1,10 +1,10 @@
 // A play, move by move.
 ghost use mathlib.Core.Path.{_≡_};
 ghost use mathlib.Core.Bool.{true};
-ghost use Rattle.rules.specs.World.{world, places};
+ghost use Rattle.rules.specs.World.{world};
 ghost use Rattle.rules.specs.Run.{unrefused, listsFit, allMoves, moveOf, movesOf, made, playFrom};
 ghost use Rattle.rules.specs.Run as rule;
-ghost use Rattle.rules.specs.Past.{Start, Told, follow, first};
+ghost use Rattle.rules.specs.Past.{PlayTells};
 ghost use Rattle.rules.specs.Promise.{Gives};
 use parts::Answer;
 use rules::Machine;
@@ -114,15 +114,11 @@ pub fn play(
         (rule.play (now (moves .entry)) (now (keys .entry)) (now (randoms .entry))
         (world machine trail (now (memory .entry)) (now (picture .entry)) (now (history .entry)))) (r .outcome) (r .machine)
         (r .trail) (now (memory .exit)) (now (picture .exit)) (now (history .exit)) ⌝ }
-    ensures { λ r. ⌜
-        (Start (world machine trail (now (memory .entry)) (now (picture .entry)) (now (history .entry))) → listsFit
-        (now (moves .entry)) (now (keys .entry)) (now (randoms .entry)) ≡ true → allMoves (now (moves .entry)) ≡ true → Told
-        (world (r .machine) (r .trail) (now (memory .exit)) (now (picture .exit)) (now (history .exit)))
-        (follow (places (now (history .entry))) (movesOf (now (moves .entry)) (now (keys .entry)) (now (randoms .entry)))
+    ensures { λ r. ⌜ PlayTells (now (moves .entry)) (now (keys .entry)) (now (randoms .entry))
         (world machine trail (now (memory .entry)) (now (picture .entry)) (now (history .entry)))
-        (first (world machine trail (now (memory .entry)) (now (picture .entry)) (now (history .entry)))))) ⌝ }
+        (world (r .machine) (r .trail) (now (memory .exit)) (now (picture .exit)) (now (history .exit))) ⌝ }
 {
-    let lists = running::lists_fit(moves.len(), keys.len(), randoms.len()) & all_moves(moves);
+    let lists = judge::lists_fit(moves.len(), keys.len(), randoms.len()) & all_moves(moves);
     let outcome = judge::admitted(machine, trail, memory, picture, history, lists);
     let Outcome::Done = outcome else {
         return Answer {

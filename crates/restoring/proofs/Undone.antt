@@ -19,14 +19,15 @@ use Rattle.rules.specs.World.{World, places, buffersFit, soundly}
 use Rattle.rules.specs.Call.{placeBefore, shrunk, lastRecord, back, backRefusal, undone}
 use Rattle.rules.specs.Promise.{Gives}
 use Rattle.rules.proofs.Ready.{Ready, ready-fits, ready-soundly}
-use Rattle.rules.proofs.Given.{Back, tests, given-refused, answered-done, settled}
+use Rattle.rules.proofs.Given.{Back, tests, refused-some, given-refused, answered-done, settled}
 use Rattle.history.specs.declared.Restored.{Restored}
 use Rattle.history.specs.Restored.{restored}
 use Rattle.rules.proofs.Parts.{lent-part}
 
 pub back-refused : (w : World) (r : Refusal) → number (Refused r) ≡ tests w true → Back (back w) (Refused r) w
 unfolding back backRefusal
-back-refused w r e = given-refused (backRefusal w) (undone (lastRecord w) w) w r (settled (buffersFit w) (soundly w) _ r e)
+back-refused w r e =
+    given-refused (backRefusal w) (undone (lastRecord w) w) w r (e ∙ settled (buffersFit w) (soundly w) _ (λ z. refused-some r (e ∙ z)))
 
 -- ---- what was read of a record
 

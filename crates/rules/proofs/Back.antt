@@ -1,20 +1,26 @@
 -- What is read of a record is what was written there.
 use mathlib.Core.Path.{_≡_, refl, ap, ap₂, _∙_}
 use mathlib.Core.Bool.{true}
-use mathlib.Core.List.{List, _++_, append-assoc}
+use mathlib.Core.List.{List, [], _∷_, _++_, append-assoc}
 use Prim.Native.Nat.{ℕ, _+_, _-_, _/_, _%_, _≤_, _<_}
 use native.Mathlib.Omega.{arith}
 use lib.ListN.{length, getD, replicate, length-append, length-replicate}
 use lib.Seq.{take-at, drop-at, getD-append-add}
 use lib.Dec.{eqb}
+use borrow.Author.Tests.{leb-true}
 use Rattle.rules.specs.declared.Machine.{Machine}
+use Rattle.rules.specs.declared.Wait.{Wait}
+use Rattle.rules.specs.declared.Wait.the-variants.{Idle, Held}
 use Rattle.rules.specs.declared.Change.{Change}
 use Rattle.rules.specs.declared.Change.the-variants.{Nothing, InMemory, InPicture}
+use Rattle.rules.specs.Number.{word}
+use Rattle.rules.specs.State.{heldSound}
 use Rattle.rules.specs.Memory.{part}
 use Rattle.rules.specs.Record.{mark, start, count, lastReturn, heldByte, fields, recordWith, byteAt, wordAt, known, changeAt}
+use Rattle.rules.specs.Typed.{Below, none, more}
 use Rattle.rules.proofs.Good.{GoodMachine}
 use Rattle.rules.proofs.Choices.{choice}
-use Rattle.rules.proofs.Parts.{below-get}
+use Rattle.rules.proofs.Parts.{below-get, below-append, below-zeros}
 
 pub record Reads (r : List ℕ) (m : Machine) (c : Change) (old : List ℕ) : Type 0 where
   pub v : part r 2 16 ≡ m .v
@@ -32,7 +38,7 @@ pub record Reads (r : List ℕ) (m : Machine) (c : Change) (old : List ℕ) : Ty
 -- ---- a list that is put together
 
 -- what stands behind a beginning of a elements
-past : (p q : List ℕ) (a k : ℕ) → length p ≡ a → getD (p ++ q) (a + k) 0 ≡ getD q k 0
+pub past : (p q : List ℕ) (a k : ℕ) → length p ≡ a → getD (p ++ q) (a + k) 0 ≡ getD q k 0
 past p q a k e = rw (← e, getD-append-add)
 
 middle : (p x q : List ℕ) (a n : ℕ) → length p ≡ a → length x ≡ n → part (p ++ x ++ q) a n ≡ x
@@ -42,7 +48,7 @@ regroup : (p f b z : List ℕ) → p ++ f ++ b ++ z ≡ p ++ (f ++ (b ++ z))
 regroup p f b z = simp append-assoc
 
 -- two bytes are their number
-word-back : (r : List ℕ) (k n : ℕ) → byteAt r k ≡ n / 256 % 256 → byteAt r (k + 1) ≡ n % 256 → n < 65536 → wordAt r k ≡ n
+pub word-back : (r : List ℕ) (k n : ℕ) → byteAt r k ≡ n / 256 % 256 → byteAt r (k + 1) ≡ n % 256 → n < 65536 → wordAt r k ≡ n
 word-back r k n e f h = omega arith
 
 -- ---- a record
@@ -119,3 +125,30 @@ reads m c old g s n sized =
       change = change-back m old e c s (omega arith);
       bytes = old-back m c old e sized;
     }
+
+-- ---- a record is bytes
+
+two-bytes : (a b : ℕ) → a < 256 → b < 256 → Below 256 (a ∷ b ∷ [])
+two-bytes a b h k = more h (more k none)
+
+mark-bytes : (c : Change) → Below 256 (mark c)
+mark-bytes Nothing = two-bytes 0x4E 0x4F (omega arith) (omega arith)
+mark-bytes (InMemory s n) = two-bytes 0x4D 0x45 (omega arith) (omega arith)
+mark-bytes (InPicture s n) = two-bytes 0x44 0x49 (omega arith) (omega arith)
+
+word-bytes : (n : ℕ) → Below 256 (word n)
+word-bytes n = two-bytes (n / 256 % 256) (n % 256) (omega arith) (omega arith)
+
+held-byte : (w : Wait) → heldSound w ≡ true → heldByte w < 256
+held-byte Idle h = omega arith
+held-byte (Held k) h = omega (arith, leb-true k 15 h)
+
+pub record-bytes : (m : Machine) (c : Change) (old : List ℕ) → GoodMachine m → Below 256 old → Below 256 (recordWith m c old)
+unfolding recordWith
+record-bytes m c old g h =
+    let shallow : m .depth < 256 = omega (arith, g .calls .most) in
+    let depth = more shallow none in
+    let timers = more (g .timers .delay) (more (g .timers .tone) (more (held-byte (m .wait) (g .wait)) none)) in
+    let front = below-append (below-append (below-append (word-bytes (m .i)) (word-bytes (m .pc))) depth) (word-bytes (lastReturn m)) in
+    let fields = below-append (below-append (below-append front timers) (word-bytes (start c))) (word-bytes (count c)) in
+    below-append (below-append (below-append (below-append (mark-bytes c) (g .v .below)) fields) h) (below-zeros (256 - count c) (omega arith))

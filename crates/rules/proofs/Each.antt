@@ -30,15 +30,15 @@ module _ (P : World → Type 0) (l : Lasts P) where
   ticks-last zero w h = h
   ticks-last (suc n) w h = ticks-last n (ticked w) (l .tick w h)
 
-  run-lasts : (n : ℕ) (ts ks rs : List ℕ) (w : World) → P w → P ((runFrom n ts ks rs w) .answer .world)
+  pub runs-last : (n : ℕ) (ts ks rs : List ℕ) (w : World) → P w → P ((runFrom n ts ks rs w) .answer .world)
   unfolding runFrom
-  run-lasts n [] ks rs w h = h
-  run-lasts n (t ∷ ts) [] rs w h = h
-  run-lasts n (t ∷ ts) (k ∷ ks) [] w h = h
-  run-lasts n (t ∷ ts) (k ∷ ks) (r ∷ rs) w h =
+  runs-last n [] ks rs w h = h
+  runs-last n (t ∷ ts) [] rs w h = h
+  runs-last n (t ∷ ts) (k ∷ ks) [] w h = h
+  runs-last n (t ∷ ts) (k ∷ ks) (r ∷ rs) w h =
       let a = step k r (tickedBy t w) in
       let next = made-lasts (aStep k r) (tickedBy t w) (ticks-last t w h) in
-      choice (λ (q : Ran). P (q .answer .world)) (eqb (a .refusal) 0) (run-lasts (n + 1) ts ks rs (a .world) next) next
+      choice (λ (q : Ran). P (q .answer .world)) (eqb (a .refusal) 0) (runs-last (n + 1) ts ks rs (a .world) next) next
 
   pub plays-last : (moves : List Move) (a : Answer) → P (a .world) → P ((playFrom moves a) .world)
   unfolding playFrom
@@ -52,7 +52,7 @@ module _ (P : World → Type 0) (l : Lasts P) where
         step = λ keys random. made-lasts (aStep keys random);
         tick = made-lasts aTick;
         back = made-lasts aBack;
-        run = λ ticks keys randoms w h. choice (λ (q : Ran). P (q .answer .world)) (eqb (runRefusal ticks keys randoms w) 0) (run-lasts 0 ticks keys randoms w h) h;
+        run = λ ticks keys randoms w h. choice (λ (q : Ran). P (q .answer .world)) (eqb (runRefusal ticks keys randoms w) 0) (runs-last 0 ticks keys randoms w h) h;
         play = λ moves keys randoms w h. choice (λ (a : Answer). P (a .world)) (eqb (playRefusal moves keys randoms w) 0) (plays-last (movesOf moves keys randoms) _ h) h;
       }
 

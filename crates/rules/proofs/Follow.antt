@@ -32,8 +32,8 @@ use Rattle.rules.specs.Picture.{drawn, darkened}
 use Rattle.rules.specs.Memory.{part, over, digitsOf}
 use Rattle.rules.specs.Step.{Board, refusalOf, changeOf, after, past, column, row, rowBytes}
 use Rattle.rules.proofs.Choices.{choice, not-zero, passed}
-use Rattle.rules.proofs.Parts.{zeroes, drop-zeros, over-length, over-take, over-drop, part-length}
-use Rattle.rules.proofs.Parts.{below-get, below-set, below-append, below-take, below-drop, below-zeros, below-over}
+use Rattle.rules.proofs.Parts.{zeroes, drop-zeros, over-take, over-drop, part-length}
+use Rattle.rules.proofs.Parts.{below-get, below-set, below-append, below-take, below-drop, below-zeros, bytes-over}
 use Rattle.rules.specs.Call.{lowered, tickBoard}
 use Rattle.rules.specs.Typed.{Below, none, more}
 use Rattle.rules.proofs.Good.{Bytes, GoodCalls, GoodTimers, GoodMachine, GoodBoard}
@@ -289,10 +289,7 @@ module _ (b : Board) (g : GoodBoard b) (m : Machine) (k : Reached (b .machine) m
       record {
         good = record {
           machine = k .good;
-          memory = record {
-            size = over-length (b .memory) new s n room (h .size) ∙ g .memory .size;
-            below = below-over (g .memory .below) (h .below) s n;
-          };
+          memory = bytes-over (g .memory) h s fit;
           picture = g .picture;
         };
         undoable = record {

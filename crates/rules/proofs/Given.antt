@@ -48,19 +48,24 @@ both-passed fits sound o e d =
 abbrev pub tests : World → Bool → ℕ
 tests w lists = unless (buffersFit w && lists) 9 (unless (soundly w) 10 0)
 
--- a world that passes is ready
+-- a world that passes is sound, and ready
+pub tested-sound : (w : World) (lists : Bool) → tests w lists ≡ 0 → soundly w ≡ true
+tested-sound w lists e = (passed (soundly w) 9 0 ((passed (buffersFit w && lists) 8 _ e) .1)) .0
+
+pub tested-ready : (w : World) (lists : Bool) → TypedBoard (boardOf w) → tests w lists ≡ 0 → Ready w
+tested-ready w lists typed e =
+    tests-ready w typed (and-eq-true-iff (buffersFit w) lists .0 ((passed (buffersFit w && lists) 8 _ e) .0) .0) (tested-sound w lists e)
+
 pub passed-ready : (w : World) (lists : Bool) (o : Outcome) → TypedBoard (boardOf w) → number o ≡ tests w lists → o ≡ Done → Ready w
-passed-ready w lists o typed e d =
-    let both = both-passed (buffersFit w && lists) (soundly w) o e d in
-    tests-ready w typed (and-eq-true-iff (buffersFit w) lists .0 (both .0) .0) (both .1)
+passed-ready w lists o typed e d = tested-ready w lists typed (sym e ∙ ap number d)
 
 -- and so are the lists
 pub passed-lists : (w : World) (lists : Bool) (o : Outcome) → number o ≡ tests w lists → o ≡ Done → lists ≡ true
 passed-lists w lists o e d = and-eq-true-iff (buffersFit w) lists .0 (both-passed (buffersFit w && lists) (soundly w) o e d .0) .1
 
 -- what refuses in the first two tests is not changed by later ones
-pub settled : (fits sound : Bool) (later : ℕ) (r : Refusal) → number (Refused r) ≡ unless (fits && true) 9 (unless sound 10 0)
-    → number (Refused r) ≡ unless fits 9 (unless sound 10 later)
-settled false sound later r e = e
-settled true false later r e = e
-settled true true later r e = absurd (refused-some r e)
+pub settled : (fits sound : Bool) (later : ℕ) → (unless (fits && true) 9 (unless sound 10 0) ≡ 0 → ⊥)
+    → unless (fits && true) 9 (unless sound 10 0) ≡ unless fits 9 (unless sound 10 later)
+settled false sound later ne = refl
+settled true false later ne = refl
+settled true true later ne = absurd (ne refl)

@@ -5,6 +5,7 @@ pub mod Parts
 pub mod Laid
 pub mod Back
 pub mod Undo
+pub mod Restored
 pub mod Drawn
 pub mod Follow
 pub mod Sound
@@ -18,3 +19,4 @@ pub mod Load
 pub mod OnlyOne
 pub mod Given
 pub mod RunsPlay
+pub mod Stays

@@ -30,7 +30,7 @@ digits-below : Below 256 digits
 unfolding allBelow
 digits-below = below-all 256 digits refl
 
-fresh-typed : (edition : Edition) → TypedMachine (fresh edition)
+pub fresh-typed : (edition : Edition) → TypedMachine (fresh edition)
 fresh-typed edition =
     record {
       vs = refl;

@@ -8,6 +8,7 @@ use lib.ListN.{getD, set, take, drop, length, replicate, length-append, length-t
 use lib.Seq.{take-at, drop-at, length-take-le, take-append-le, drop-append-le, drop-drop, getD-take, getD-drop, ext-getD}
 use Rattle.rules.specs.Memory.{part, over}
 use Rattle.rules.specs.Typed.{Below, none, more}
+use Rattle.rules.proofs.Good.{Bytes}
 
 abbrev pub zeroes : ℕ → List ℕ
 zeroes n = replicate n 0
@@ -106,6 +107,14 @@ module _ {n : ℕ} where
 
 pub below-over : {n : ℕ} {a new : List ℕ} → Below n a → Below n new → (s k : ℕ) → Below n (over a s new k)
 below-over h t s k = below-append (below-append (below-take h s) t) (below-drop h (s + k))
+
+-- and as long as before
+pub bytes-over : {n k : ℕ} {a new : List ℕ} → Bytes n a → Bytes k new → (s : ℕ) → s + k ≤ n → Bytes n (over a s new k)
+bytes-over {k = k} {a} {new} g h s fits =
+    record {
+      size = over-length a new s k (omega (arith, g .size)) (h .size) ∙ g .size;
+      below = below-over (g .below) (h .below) s k;
+    }
 
 pub drop-zeros : (i k : ℕ) → drop i (zeroes k) ≡ zeroes (k - i)
 drop-zeros zero k = rw sub-zero

@@ -1,25 +1,28 @@
--- A world that passes the tests 9 and 10: the tests give it, and every accepted step or tick keeps it.
+-- A world that passes the tests 9 and 10: the tests give it, and every accepted call keeps it, a step back onto any bytes too.
 use mathlib.Core.Path.{_≡_}
-use mathlib.Core.Bool.{true, _&&_, and-eq-true-iff}
+use mathlib.Core.Bool.{true, not, _&&_, and-eq-true-iff}
 use Prim.Native.Nat.{ℕ, zero, suc, _+_, _*_, _≤_, _<_}
 use native.Mathlib.Omega.{arith}
 use lib.ListN.{getD, length}
 use lib.Dec.{eqb, ltb, leb}
-use borrow.Author.Tests.{ltb-true, leb-true, eqb-true, le-leb, lt-ltb, eq-eqb}
+use borrow.Author.Tests.{ltb-true, leb-true, eqb-true, not-true, le-leb, lt-ltb, eq-eqb}
+use Rattle.rules.specs.declared.Trail.{Trail}
 use Rattle.rules.specs.declared.Change.{Change}
 use Rattle.rules.specs.declared.Change.the-variants.{Nothing}
 use Rattle.rules.specs.State.{sound}
-use Rattle.rules.specs.Record.{recordOf}
+use Rattle.rules.specs.Record.{recordOf, damaged}
 use Rattle.rules.specs.Step.{Board, refusalOf, changeOf}
 use Rattle.rules.specs.World.{World, Answer, boardOf, places, historyFits, buffersFit, trailFits, soundly}
-use Rattle.rules.specs.Call.{nextPlace, written, acted, opAt, stepBoard, stepRefusal, stepped, step, tickBoard, ticked}
+use Rattle.rules.specs.Call.{nextPlace, grown, written, acted, opAt, stepBoard, stepRefusal, stepped, step, tickBoard, ticked}
+use Rattle.rules.specs.Call.{placeBefore, lastRecord, backRefusal, undone, back}
 use Rattle.rules.specs.Run.{tickedBy}
-use Rattle.rules.specs.Typed.{TypedBoard}
+use Rattle.rules.specs.Typed.{Below, TypedBoard}
 use Rattle.rules.proofs.Choices.{by-test, and-both, passed}
-use Rattle.rules.proofs.Good.{GoodBoard}
-use Rattle.rules.proofs.Parts.{over-length, below-get}
+use Rattle.rules.proofs.Good.{Bytes, GoodBoard}
+use Rattle.rules.proofs.Parts.{over-length, part-length, below-get, below-take, below-drop}
 use Rattle.rules.proofs.Sound.{good-sound, sound-good}
-use Rattle.rules.proofs.Undo.{written-length}
+use Rattle.rules.proofs.Undo.{written-length, usable}
+use Rattle.rules.proofs.Restored.{machine-good, memory-good, picture-good}
 use Rattle.rules.proofs.Follow.{Follows, OpFits, decode-fits, step-follows, tick-follows}
 
 pub record Ready (w : World) : Type 0 where
@@ -106,6 +109,9 @@ ready-typed w h =
 pub next-below : (r n : ℕ) → n < r → nextPlace r n < r
 next-below r n h = by-test (λ (q : ℕ). q < r) (n + 1) r (λ e. omega arith) (λ e. omega arith)
 
+pub grown-most : (r : ℕ) (t : Trail) → t .kept ≤ r → grown r t .kept ≤ r
+grown-most r t h = by-test (λ (q : ℕ). q ≤ r) (t .kept) r (λ e. omega arith) (λ e. omega arith)
+
 module _ (w : World) (h : Ready w) (c : Change) (b : Board) (f : Follows c (boardOf w) b) where
   pub record-sized : length (recordOf (w .machine) c (w .memory) (w .picture)) ≡ 288
   record-sized = written-length c (boardOf w) (h .good) (f .undoable .fits)
@@ -120,8 +126,7 @@ module _ (w : World) (h : Ready w) (c : Change) (b : Board) (f : Follows c (boar
         least = rw as-long (h .least);
         most = rw as-long (h .most);
         next = rw as-long (next-below (places (w .history)) (w .trail .next) (h .next));
-        limit = rw as-long
-            (by-test (λ (q : ℕ). q ≤ places (w .history)) (w .trail .kept) (places (w .history)) (λ e. omega arith) (λ e. omega (arith, h .limit)));
+        limit = rw as-long (grown-most (places (w .history)) (w .trail) (h .limit));
       }
 
 module _ (w : World) (h : Ready w) where
@@ -144,10 +149,13 @@ module _ (w : World) (h : Ready w) where
       fits : OpFits (opAt (boardOf w))
       fits = decode-fits _ _ _ (byte (w .machine .pc)) (byte (w .machine .pc + 1))
 
+  pub stepped-ready : (keys random : ℕ) → stepRefusal w ≡ 0 → Ready (stepped keys random w)
+  unfolding stepped
+  stepped-ready keys random e = acted-ready w h _ _ (stepped-follows keys random e)
+
   pub step-ready : (keys random : ℕ) → Ready ((step keys random w) .world)
-  unfolding step stepped
-  step-ready keys random =
-      by-test (λ (a : Answer). Ready (a .world)) (stepRefusal w) 0 (λ e. acted-ready w h _ _ (stepped-follows keys random e)) (λ e. h)
+  unfolding step
+  step-ready keys random = by-test (λ (a : Answer). Ready (a .world)) (stepRefusal w) 0 (stepped-ready keys random) (λ e. h)
 
   pub ticked-ready : Ready (ticked w)
   unfolding ticked
@@ -156,3 +164,39 @@ module _ (w : World) (h : Ready w) where
 pub ticks-ready : (n : ℕ) (w : World) → Ready w → Ready (tickedBy n w)
 ticks-ready zero w h = h
 ticks-ready (suc n) w h = ticks-ready n (ticked w) (ticked-ready w h)
+
+-- ---- a step back, whatever stands in the history
+
+pub before-below : (r n : ℕ) → n < r → placeBefore r n < r
+before-below r n h = by-test (λ (q : ℕ). q < r) n 0 (λ e. omega arith) (λ e. omega arith)
+
+module _ (w : World) (h : Ready w) where
+  back-intact : backRefusal w ≡ 0 → not (damaged (lastRecord w) (w .machine .depth)) ≡ true
+  unfolding backRefusal
+  back-intact e =
+      let third = passed (not (eqb (w .trail .kept) 0)) 6 _ (rw (ready-fits w h, ready-soundly w h) at e) in
+      (passed (not (damaged (lastRecord w) (w .machine .depth))) 10 0 (third .1)) .0
+
+  pub undone-ready : Below 256 (w .history) → backRefusal w ≡ 0 → Ready (undone (lastRecord w) w)
+  unfolding undone
+  undone-ready bytes e =
+      let before = before-below (places (w .history)) (w .trail .next) (h .next) in
+      let at = 288 * placeBefore (places (w .history)) (w .trail .next) in
+      let place : Bytes 288 (lastRecord w) =
+      record { size = part-length (w .history) at 288 (omega arith); below = below-take (below-drop bytes at) 288 } in
+      let fine = usable (lastRecord w) (w .machine .depth) (not-true _ (back-intact e)) in
+      record {
+        good = record {
+          machine = machine-good (lastRecord w) place fine (w .machine) (h .good .machine);
+          memory = memory-good (lastRecord w) place fine (w .memory) (h .good .memory);
+          picture = picture-good (lastRecord w) place fine (w .picture) (h .good .picture);
+        };
+        least = h .least;
+        most = h .most;
+        next = before;
+        limit = omega (arith, h .limit);
+      }
+
+  pub back-ready : Below 256 (w .history) → Ready ((back w) .world)
+  unfolding back
+  back-ready bytes = by-test (λ (a : Answer). Ready (a .world)) (backRefusal w) 0 (undone-ready bytes) (λ e. h)

@@ -1,18 +1,18 @@
 -- The proof that a run gives what a play of its ticks and steps gives (Past): no tick of it is refused.
 use mathlib.Core.Path.{_≡_, refl, sym, ap, _∙_}
-use mathlib.Core.Bool.{Bool, true, false, _&&_, and-eq-true-iff}
+use mathlib.Core.Bool.{Bool, true, false}
 use mathlib.Core.List.{List, [], _∷_}
 use Prim.Native.Nat.{ℕ, zero, suc, _+_}
 use lib.Dec.{eqb}
 use borrow.Author.Tests.{le-leb, eqb-true, eq-eqb}
 use Rattle.rules.specs.Number.{pick}
-use Rattle.rules.specs.World.{World, Answer, buffersFit, soundly}
+use Rattle.rules.specs.World.{World, Answer}
 use Rattle.rules.specs.Call.{step, tick, ticked, tickRefusal}
 use Rattle.rules.specs.Run.{Move, aStep, playFrom, unrefused, tickedBy, runFrom, runRefusal, run, listsFit, Ran}
 use Rattle.rules.specs.Past.{ticksThen, movesRun, RunsPlay}
-use Rattle.rules.proofs.Choices.{and-both, passed}
-use Rattle.rules.proofs.Ready.{Ready, tests-ready, ready-soundly, step-ready, ticked-ready, ticks-ready}
-use Rattle.rules.proofs.Given.{answered-done}
+use Rattle.rules.proofs.Choices.{and-both}
+use Rattle.rules.proofs.Ready.{Ready, ready-soundly, step-ready, ticked-ready, ticks-ready}
+use Rattle.rules.proofs.Given.{tested-ready, answered-done}
 
 tick-done : (w : World) → Ready w → tick w ≡ unrefused (ticked w)
 unfolding tick tickRefusal
@@ -53,7 +53,4 @@ plays n (t ∷ ts) (k ∷ ks) (r ∷ rs) w h =
 pub runs-play : RunsPlay
 unfolding run runRefusal
 runs-play ticks keys randoms w typed e =
-    let first = passed (buffersFit w && listsFit ticks keys randoms) 8 _ e in
-    let sound = passed (soundly w) 9 0 (first .1) in
-    let ready = tests-ready w typed (and-eq-true-iff (buffersFit w) (listsFit ticks keys randoms) .0 (first .0) .0) (sound .0) in
-    rw (eq-eqb (runRefusal ticks keys randoms w) 0 e) (plays 0 ticks keys randoms w ready)
+    rw (eq-eqb (runRefusal ticks keys randoms w) 0 e) (plays 0 ticks keys randoms w (tested-ready w (listsFit ticks keys randoms) typed e))

@@ -27,7 +27,8 @@ use Rattle.rules.proofs.Parts.{part-over-same, part-over-before, part-o
 use Rattle.rules.proofs.Undo.{Restores, undo}
 use Rattle.rules.proofs.Follow.{Follows, tick-follows}
 use Rattle.rules.proofs.Still.{step-chosen}
-use Rattle.rules.proofs.Ready.{Ready, start-ready, ready-fits, ready-soundly, record-sized, as-long, acted-ready, stepped-follows}
+use Rattle.rules.proofs.Ready.{Ready, start-ready, ready-fits, ready-soundly, record-sized, as-long, acted-ready}
+use Rattle.rules.proofs.Ready.{stepped-follows, before-below}
 
 -- ---- the chain of records: the one before place n leads from the board b to the first of the list, and so on, k times
 
@@ -50,9 +51,6 @@ before-next : (r n : ℕ) → n < r → placeBefore r (nextPlace r n) ≡ n
 before-next r n h =
     by-test (λ (q : ℕ). placeBefore r q ≡ n) (n + 1) r (λ e. omega arith)
     (λ e. by-test (λ (q : ℕ). q ≡ n) (n + 1) 0 (λ z. omega arith) (λ z. omega arith))
-
-before-below : (r n : ℕ) → n < r → placeBefore r n < r
-before-below r n h = by-test (λ (q : ℕ). q < r) n 0 (λ e. omega arith) (λ e. omega arith)
 
 -- ---- the chain under a new record
 

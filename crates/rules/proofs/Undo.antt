@@ -1,6 +1,6 @@
 -- One action and its undoing: the record that is written beside an action gives back what stood before it.
 use mathlib.Core.Path.{_≡_, refl, sym, ap}
-use mathlib.Core.Bool.{Bool, true, false, not, _&&_, _||_, and-eq-true-iff}
+use mathlib.Core.Bool.{Bool, true, false, not, _&&_, _||_, and-eq-true-iff, or-false}
 use mathlib.Core.List.{List, _++_}
 use Prim.Native.Nat.{ℕ, zero, suc, _+_, _-_, _≤_, _<_}
 use native.Mathlib.Omega.{arith}
@@ -98,7 +98,7 @@ stack-back (suc e) last stack stack′ g l below is =
 last-is : (m : Machine) → 0 < m .depth → lastReturn m ≡ getD (m .stack) (m .depth - 1) 0
 last-is m h = rw (ne-eqb (m .depth) 0 (λ e. omega arith))
 
-wait-back : (w : Wait) → heldSound w ≡ true → pick (eqb (heldByte w) 0xFF) Idle (Held (heldByte w)) ≡ w
+pub wait-back : (w : Wait) → heldSound w ≡ true → pick (eqb (heldByte w) 0xFF) Idle (Held (heldByte w)) ≡ w
 wait-back Idle h = refl
 wait-back (Held k) h = rw (ne-eqb k 0xFF (λ e. omega (arith, leb-true k 15 h)))
 
@@ -183,6 +183,7 @@ undo c b b′ g g′ u kept =
 pub record Usable (r : List ℕ) : Type 0 where
   pub shallow : byteAt r 22 ≤ 12
   pub fits : Fits (changeAt r)
+  pub held : heldSound (waitAt r) ≡ true
 
 inside : (s n most end : ℕ) → (leb 1 n && leb n most && leb (s + n) end) ≡ true → (1 ≤ n) × (n ≤ most) × (s + n ≤ end)
 inside s n most end e =
@@ -199,6 +200,10 @@ first : (a b c d : Bool) → (a && b && c && d) ≡ true → a ≡ true
 first true b c d e = refl
 first false b c d e = e
 
+held-sound : (k : ℕ) (t : Bool) → (leb k 15 || t) ≡ true → heldSound (pick t Idle (Held k)) ≡ true
+held-sound k true e = refl
+held-sound k false e = rw or-false at e
+
 pub usable : (r : List ℕ) (present : ℕ) → damaged r present ≡ false → Usable r
 usable r p e =
     let all = and-eq-true-iff (changeSound r && depthSound r p) (keySound r) .0 (not-false _ e) in
@@ -207,4 +212,5 @@ usable r p e =
     record {
       shallow = leb-true d 12 (first (leb d 12) (leb d (p + 1)) (leb p (d + 1)) (not (eqb d 0) || eqb (wordAt r 23) 0) (both .1));
       fits = allowed-fits (changeAt r) (and-eq-true-iff (known r) (allowed (changeAt r)) .0 (both .0) .1);
+      held = held-sound (byteAt r 27) (eqb (byteAt r 27) 0xFF) (all .1);
     }

@@ -8,7 +8,7 @@ use lib.Dec.{T, eqb}
 use Rattle.rules.specs.declared.Edition.{Edition}
 use Rattle.rules.specs.declared.Edition.the-variants.{First, Second}
 use Rattle.rules.specs.declared.Machine.{Machine}
-use Rattle.rules.specs.Number.{word}
+use Rattle.rules.specs.Number.{word, same}
 use Rattle.rules.specs.State.{memorySize, pictureSize, startAddress, fresh, reg, withReg, withI}
 use Rattle.rules.specs.Instruction.{decode}
 use Rattle.rules.specs.Picture.{drawn, darkened}
@@ -119,12 +119,6 @@ given (i a) b = record { machine = withI a (b .machine); memory = b .memory; pic
 given (bytes a l) b = record { machine = b .machine; memory = over (b .memory) a l (length l); picture = b .picture }
 given (shows l) b = record { machine = b .machine; memory = b .memory; picture = l }
 given second b = record { machine = withEdition Second (b .machine); memory = b .memory; picture = b .picture }
-
-abbrev same : List ℕ → List ℕ → Bool
-same [] [] = true
-same [] (y ∷ ys) = false
-same (x ∷ xs) [] = false
-same (x ∷ xs) (y ∷ ys) = eqb x y && same xs ys
 
 abbrev isTrue : Fact → Board → Bool
 isTrue (v x n) b = eqb (reg (b .machine) x) n

@@ -1,7 +1,8 @@
--- Choices, numbers of two bytes, and bits.
-use mathlib.Core.Bool.{Bool, true, false}
+-- Choices, numbers of two bytes, bits, and a test of two lists.
+use mathlib.Core.Bool.{Bool, true, false, _&&_}
 use mathlib.Core.List.{List, [], _∷_}
 use Prim.Native.Nat.{ℕ, _/_, _%_, _^_}
+use lib.Dec.{eqb}
 
 -- a where the test holds, and else b
 abbrev pub pick : {A : Type 0} → Bool → A → A → A
@@ -24,3 +25,10 @@ bit b n = n / 2 ^ b % 2
 -- and whether it is 1
 abbrev pub isOne : ℕ → ℕ → Bool
 isOne b n = eqb (bit b n) 1
+
+-- whether two lists are equal
+abbrev pub same : List ℕ → List ℕ → Bool
+same [] [] = true
+same [] (y ∷ ys) = false
+same (x ∷ xs) [] = false
+same (x ∷ xs) (y ∷ ys) = eqb x y && same xs ys

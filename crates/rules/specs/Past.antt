@@ -14,7 +14,8 @@ use Rattle.rules.specs.Step.{Board}
 use Rattle.rules.specs.World.{World, boardOf, places, buffersFit}
 use Rattle.rules.specs.Load.{load}
 use Rattle.rules.specs.Call.{step, stepBoard, tickBoard, back}
-use Rattle.rules.specs.Run.{Move, aStep, aTick, aBack, made, playFrom, unrefused, tickedBy, runRefusal, run}
+use Rattle.rules.specs.Run.{Move, aStep, aTick, aBack, made, movesOf, listsFit, allMoves, playFrom, unrefused}
+use Rattle.rules.specs.Run.{tickedBy, runRefusal, run}
 use Rattle.rules.specs.Typed.{Below, TypedBoard}
 
 -- ---- the plain list of boards, the last one first, and how many steps back are kept, at most r
@@ -61,6 +62,12 @@ pub record Told (w : World) (p : Past) : Type 0 where
   pub last : p .boards ≡ boardOf w ∷ earlier
   pub kept : w .trail .kept ≡ p .kept
   pub refused : (back w) .refusal ≡ pick (eqb (w .trail .kept) 0) (numberOf NothingKept) 0
+
+-- what a play promises of the world w′ that it leaves, where it starts from w with lists that fit
+abbrev pub PlayTells : List ℕ → List ℕ → List ℕ → World → World → Type 0
+PlayTells moves keys randoms w w′ =
+    Start w → listsFit moves keys randoms ≡ true → allMoves moves ≡ true
+    → Told w′ (follow (places (w .history)) (movesOf moves keys randoms) w (first w))
 
 -- ---- the moves of a run: for each entry its ticks, then its step, up to and including the step that ends it
 

@@ -33,7 +33,8 @@ pub struct Machine {
 }
 
 impl Machine {
-    // The bytes of memory, the bytes of the picture, the entries of the stack, and the address that a program is loaded at.
+    // The bytes of memory, the bytes of the picture, the entries of the stack, the address that a program is loaded at, and the fewest
+    // bytes that are too many for one: a reader that takes so many sees that a program is too long.
     pub const MEMORY: usize = 4096;
 
     pub const PICTURE: usize = 256;
@@ -41,6 +42,8 @@ impl Machine {
     pub const STACK: usize = 12;
 
     pub const START: usize = 512;
+
+    pub const TOO_LONG: usize = Machine::MEMORY - Machine::START + 1;
 
     // The state after a load of that edition.
     pub fn fresh(edition: Edition) -> Machine

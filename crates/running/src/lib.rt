@@ -3,7 +3,6 @@ ghost use mathlib.Core.Path.{_≡_};
 ghost use mathlib.Core.Bool.{true, _&&_};
 ghost use mathlib.Core.List.{List};
 ghost use Prim.Native.Nat.{ℕ, _*_, _≤_};
-ghost use lib.Dec.{eqb, leb};
 ghost use Rattle.rules.specs.World.{world};
 ghost use Rattle.rules.specs.Call as rule;
 ghost use Rattle.rules.specs.Run.{tickedBy, runFrom, unrefused, listsFit};
@@ -19,13 +18,6 @@ use parts::Ran;
 use rules::Machine;
 use rules::Outcome;
 use rules::Trail;
-
-// Three lengths that are equal, at most 4,096.
-pub fn lists_fit(a: usize, b: usize, c: usize) -> bool
-    ensures { λ r. ⌜ r ≡ (eqb a b && eqb b c && leb a 4096) ⌝ }
-{
-    (a == b) & (b == c) & (a <= 4096)
-}
 
 // So many ticks.
 fn ticks_of(
@@ -186,7 +178,7 @@ pub fn run(
         (world machine trail (now (memory .entry)) (now (picture .entry)) (now (history .entry))))
         × (r .dark ≤ 120 * r .accepted) ⌝ }
 {
-    let lists = lists_fit(ticks.len(), keys.len(), randoms.len());
+    let lists = judge::lists_fit(ticks.len(), keys.len(), randoms.len());
     let outcome = judge::admitted(machine, trail, memory, picture, history, lists);
     let Outcome::Done = outcome else {
         return Ran {

@@ -1,6 +1,7 @@
 // Reads a program from standard input, runs it for 64 steps with no ticks, no keys and random byte 00, as the trace does, and shows what
 // the card's glass then shows, in block characters: the game's own picture, and beside it, where an argument is handed in, the page of
-// its variables. The last line says why it stopped, and where.
+// its variables. It is loaded for the second edition, which runs what the first runs and four operations more. The last line says why it
+// stopped, and where.
 mod blocks;
 
 use parts::Ran;
@@ -12,7 +13,7 @@ use stepper::Switch;
 fn run(program: &[u8], picture: &mut [u8]) -> Ran {
     let mut memory = [0u8; Machine::MEMORY];
     let mut history = [0u8; history::PLACE];
-    let start = chip8::load(Edition::First, program, &mut memory, picture, &mut history);
+    let start = chip8::load(Edition::Second, program, &mut memory, picture, &mut history);
     let outcome = start.outcome;
     let machine = start.machine;
     let trail = start.trail;
@@ -45,8 +46,7 @@ fn glass_of(switch: Switch, picture: &[u8], page: &[u8]) -> [u8; 1024] {
 }
 
 fn main() {
-    // One byte more than the longest program, so that a longer input is seen to be too long.
-    let mut input = [0u8; 3585];
+    let mut input = [0u8; Machine::TOO_LONG];
     let size = io::read_full(0, &mut input);
     let mut picture = [0u8; Machine::PICTURE];
     let ran = run(&input[..size], &mut picture);

@@ -8,7 +8,7 @@ use lib.Dec.{T}
 use Rattle.rules.specs.declared.Edition.the-variants.{First}
 use Rattle.rules.specs.declared.Machine.{Machine}
 use Rattle.rules.specs.State.{pictureSize, fresh, withV, withPc}
-use Rattle.rules.specs.Same.{same}
+use Rattle.rules.specs.Number.{same}
 use Rattle.rules.specs.Picture.{bytesFrom}
 use Rattle.stepper.specs.Page.{pageSpot}
 use Rattle.stepper.specs.Bytes.{pageByte, pageOf, page}

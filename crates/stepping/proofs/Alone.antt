@@ -1,6 +1,6 @@
 -- A run of one entry without a tick is its step: where it is accepted nothing is left to be done, and where it is refused the run ends.
 use mathlib.Core.Path.{_≡_, refl, sym}
-use mathlib.Core.Bool.{Bool, true, false, _&&_}
+use mathlib.Core.Bool.{true}
 use mathlib.Core.List.{List, [], _∷_}
 use Prim.Native.Nat.{ℕ, _+_, _≤_}
 use native.Mathlib.Omega.{arith}
@@ -9,27 +9,20 @@ use borrow.Author.Tests.{ne-eqb}
 use Rattle.rules.specs.declared.Machine.{Machine}
 use Rattle.rules.specs.declared.Trail.{Trail}
 use Rattle.rules.specs.declared.Outcome.{Outcome}
-use Rattle.rules.specs.Number.{pick, unless}
+use Rattle.rules.specs.Number.{pick}
 use Rattle.rules.specs.World.{World, Answer, buffersFit, soundly}
 use Rattle.rules.specs.Call.{step, stepRefusal}
 use Rattle.rules.specs.Run.{Ran, runFrom, run, runRefusal}
 use Rattle.rules.specs.Dark.{stepDark, runDarkFrom, runDark}
 use Rattle.rules.specs.Promise.{Gives}
 use Rattle.rules.proofs.Choices.{by-test}
-use Rattle.rules.proofs.Given.{tests}
-
--- what refuses in the first two tests is not changed by later ones
-first-two : (fits sound : Bool) (later : ℕ) → (unless (fits && true) 9 (unless sound 10 0) ≡ 0 → ⊥)
-    → unless fits 9 (unless sound 10 later) ≡ unless (fits && true) 9 (unless sound 10 0)
-first-two false sound later ne = refl
-first-two true false later ne = refl
-first-two true true later ne = absurd (ne refl)
+use Rattle.rules.proofs.Given.{tests, settled}
 
 module _ (keys random : ℕ) (w : World) where
   -- the step is refused by the first two tests, as the run is
   same-refusal : (tests w true ≡ 0 → ⊥) → stepRefusal w ≡ tests w true
   unfolding stepRefusal
-  same-refusal ne = first-two (buffersFit w) (soundly w) _ ne
+  same-refusal ne = sym (settled (buffersFit w) (soundly w) _ ne)
 
   entry-answer : (runFrom 0 (0 ∷ []) (keys ∷ []) (random ∷ []) w) .answer ≡ step keys random w
   unfolding runFrom

@@ -74,7 +74,13 @@ pub fn put_trace(out: &mut [u8; 2048], program: &[u8]) -> usize
     let mut picture = [0u8; Machine::PICTURE];
     let mut history = [0u8; history::PLACE];
     let at = line::put_header(out, 0);
-    let start = chip8::load(Edition::First, program, &mut memory, &mut picture, &mut history);
+    let start = chip8::load(
+        Edition::First,
+        program,
+        &mut memory,
+        &mut picture,
+        &mut history,
+    );
     let machine = start.machine;
     let outcome = start.outcome;
     let refusal = parts::number(outcome);

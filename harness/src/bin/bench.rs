@@ -9,10 +9,14 @@ use std::fmt;
 use std::hint::black_box;
 use std::time::Instant;
 
-use harness::card;
+use harness::buffers::{Host, Lists};
+use harness::card::{self, Archive};
 use harness::dots::PANEL;
-use harness::engine::{Archive, Buffers, Engine, Tuned, ACCEPTED, ANSWER};
-use harness::second::{HISTORY_MOST, IMAGE, LIST_MOST, MEMORY, PICTURE, PLACE};
+use harness::engine::{Engine, ACCEPTED, ANSWER};
+use harness::second::{
+    FIRST_EDITION, HISTORY_MOST, IMAGE, LIST_MOST, MEMORY, PICTURE, PLACE, SECOND_EDITION,
+};
+use harness::tuned::Tuned;
 
 const TURNS: usize = 25;
 const LISTS_A_TURN: usize = 10;
@@ -20,33 +24,50 @@ const PANELS_A_TURN: usize = 20_000;
 /// The longest history, and a short one.
 const HISTORIES: [usize; 2] = [HISTORY_MOST, 8 * PLACE];
 
+struct Program {
+    name: &'static str,
+    edition: u8,
+    words: &'static [u16],
+}
+
 /// Endless loops of our own, in which no step is ever refused.
-const PROGRAMS: [(&str, &[u16]); 4] = [
-    (
-        "arithmetic",
-        &[
+const PROGRAMS: [Program; 5] = [
+    Program {
+        name: "arithmetic",
+        edition: FIRST_EDITION,
+        words: &[
             0x6001, 0x7103, 0x8014, 0x8125, 0x8231, 0x8302, 0x3400, 0x7405, 0xC5FF, 0x9570, 0x8750,
             0x1200,
         ],
-    ),
-    (
-        "drawing",
-        &[
+    },
+    Program {
+        name: "second edition",
+        edition: SECOND_EDITION,
+        words: &[
+            0x60A5, 0x8106, 0x8213, 0x8327, 0x843E, 0x8046, 0x8533, 0x8607, 0x876E, 0x7601, 0x1202,
+        ],
+    },
+    Program {
+        name: "drawing",
+        edition: FIRST_EDITION,
+        words: &[
             0xA000, 0xDAB5, 0x7A07, 0xDAB8, 0x7B05, 0xDABF, 0xDBA5, 0xDBAA, 0x1202,
         ],
-    ),
-    (
-        "store and fetch",
-        &[
+    },
+    Program {
+        name: "store and fetch",
+        edition: FIRST_EDITION,
+        words: &[
             0xA600, 0xF755, 0xFF65, 0xFF55, 0xF733, 0xF365, 0x7A01, 0x1200,
         ],
-    ),
-    (
-        "calls",
-        &[
+    },
+    Program {
+        name: "calls",
+        edition: FIRST_EDITION,
+        words: &[
             0x2204, 0x1200, 0x2208, 0x00EE, 0x220C, 0x00EE, 0x7001, 0x00EE,
         ],
-    ),
+    },
 ];
 
 fn main() {
@@ -55,7 +76,7 @@ fn main() {
         println!("\nA history of {history_length} bytes");
         let measured: Vec<(&str, Measured)> = PROGRAMS
             .iter()
-            .map(|(name, words)| (*name, measure(words, history_length)))
+            .map(|program| (program.name, measure(program, history_length)))
             .collect();
         print_runs(&measured);
         print_steps(&measured);
@@ -148,9 +169,9 @@ struct Measured {
 }
 
 /// Takes all five in turns on one program.
-fn measure(words: &[u16], history_length: usize) -> Measured {
-    let mut card = Desk::new(words, history_length, &Archive);
-    let mut tuned = Desk::new(words, history_length, &Tuned);
+fn measure(program: &Program, history_length: usize) -> Measured {
+    let mut card = Desk::new(program, history_length, &Archive);
+    let mut tuned = Desk::new(program, history_length, &Tuned);
     let mut cleared = vec![1; history_length];
     let mut speeds: [Vec<f64>; 5] = Default::default();
     for _ in 0..TURNS {
@@ -205,58 +226,51 @@ fn clear_places(history: &mut [u8]) {
 /// A loaded machine with an engine and its lists.
 struct Desk<'a, E> {
     engine: &'a E,
-    image: Vec<u8>,
-    memory: Vec<u8>,
-    picture: Vec<u8>,
-    history: Vec<u8>,
+    host: Host,
     ticks: Vec<u8>,
     keys: Vec<u16>,
     randoms: Vec<u8>,
 }
 
 impl<E: Engine> Desk<'_, E> {
-    fn new<'a>(words: &[u16], history_length: usize, engine: &'a E) -> Desk<'a, E> {
+    fn new<'a>(program: &Program, history_length: usize, engine: &'a E) -> Desk<'a, E> {
         let mut desk = Desk {
             engine,
-            image: vec![0; IMAGE],
-            memory: vec![0; MEMORY],
-            picture: vec![0; PICTURE],
-            history: vec![0; history_length],
+            host: Host {
+                image: vec![0; IMAGE],
+                memory: vec![0; MEMORY],
+                picture: vec![0; PICTURE],
+                history: vec![0; history_length],
+            },
             ticks: vec![0; LIST_MOST],
             keys: vec![0; LIST_MOST],
             randoms: (0..LIST_MOST).map(|entry| entry as u8).collect(),
         };
-        let program: Vec<u8> = words.iter().flat_map(|word| word.to_be_bytes()).collect();
-        let refusal = engine.load(desk.parts().0, &program);
+        let words = program.words.iter();
+        let bytes: Vec<u8> = words.flat_map(|word| word.to_be_bytes()).collect();
+        let refusal = engine.load(desk.host.lend(), &bytes, program.edition);
         assert_eq!(refusal, 0, "a program of the measurements is loaded");
         desk
     }
 
-    /// The four buffers, then the three lists.
-    fn parts(&mut self) -> (Buffers<'_>, &[u8], &[u16], &[u8]) {
-        let buffers = Buffers {
-            image: &mut self.image,
-            memory: &mut self.memory,
-            picture: &mut self.picture,
-            history: &mut self.history,
-        };
-        (buffers, &self.ticks, &self.keys, &self.randoms)
-    }
-
     fn run(&mut self) {
-        let engine = self.engine;
         let mut answer = [0; ANSWER];
-        let (buffers, ticks, keys, randoms) = self.parts();
-        let refusal = engine.run(buffers, ticks, keys, randoms, &mut answer);
+        let lists = Lists {
+            first: &self.ticks,
+            keys: &self.keys,
+            randoms: &self.randoms,
+        };
+        let refusal = self.engine.run(self.host.lend(), lists, &mut answer);
         assert_eq!((refusal, answer[ACCEPTED]), (0, LIST_MOST as u64));
     }
 
     fn steps(&mut self) {
-        let engine = self.engine;
         let mut answer = [0; ANSWER];
         for entry in 0..LIST_MOST {
-            let (buffers, _, keys, randoms) = self.parts();
-            let refusal = engine.step(buffers, keys[entry], randoms[entry], &mut answer);
+            let (keys, random) = (self.keys[entry], self.randoms[entry]);
+            let refusal = self
+                .engine
+                .step(self.host.lend(), keys, random, &mut answer);
             assert_eq!((refusal, answer[ACCEPTED]), (0, 1));
         }
     }

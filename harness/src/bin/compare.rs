@@ -6,13 +6,15 @@ use std::sync::atomic::{AtomicU64, Ordering};
 use std::thread;
 use std::time::{Duration, Instant, SystemTime};
 
+use harness::card::Archive;
 use harness::case::Case;
 use harness::check::{check, fails};
-use harness::engine::{Archive, Engine, Tuned};
+use harness::engine::Engine;
 use harness::generate;
 use harness::random::Random;
 use harness::shrink::shrink;
 use harness::tally::Tally;
+use harness::tuned::Tuned;
 
 const USAGE: &str = "\
 compare [--seed N] [--calls N | --minutes N] [--tuned] [--show]

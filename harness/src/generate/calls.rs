@@ -1,7 +1,8 @@
 //! Single calls with inputs of every kind.
 
-use super::instructions;
-use crate::case::{Call, Part};
+use super::{hosts, instructions};
+use crate::buffers::Part;
+use crate::case::Call;
 use crate::engine::ANSWER;
 use crate::random::Random;
 use crate::second::{Machine, LIST_MOST, MOVE_BACK, MOVE_STEP, MOVE_TICK};
@@ -61,6 +62,10 @@ pub fn load(random: &Random) -> Call {
     };
     Call::Load {
         program: random.bytes(length),
+        edition: match random.once_in(5) {
+            true => hosts::no_edition(random),
+            false => hosts::edition(random),
+        },
     }
 }
 

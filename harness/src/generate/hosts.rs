@@ -1,9 +1,11 @@
 //! What a host holds at the start of a case.
 
 use super::instructions;
-use crate::case::Host;
+use crate::buffers::Host;
 use crate::random::Random;
-use crate::second::{Machine, HISTORY_MOST, MEMORY, PICTURE, PLACE, STACK};
+use crate::second::{
+    Machine, FIRST_EDITION, HISTORY_MOST, LATER, MEMORY, PICTURE, PLACE, SECOND_EDITION, STACK,
+};
 
 /// Mostly few places, so that they are soon used up and compared quickly; the
 /// bytes after the last place are any number.
@@ -29,9 +31,19 @@ pub fn walk_history_length(random: &Random) -> usize {
     }
 }
 
+/// An edition that there is.
+pub fn edition(random: &Random) -> u8 {
+    random.pick(&[FIRST_EDITION, SECOND_EDITION])
+}
+
+/// A number that is no edition.
+pub fn no_edition(random: &Random) -> u8 {
+    random.pick(&[2, 3, 128, 255])
+}
+
 /// A sound machine of any kind, with an empty history.
 pub fn machine(places: usize, random: &Random) -> Machine {
-    let mut machine = Machine::fresh();
+    let mut machine = Machine::fresh(edition(random));
     for register in 0..16 {
         machine.v[register] = instructions::value(random);
     }
@@ -90,7 +102,7 @@ pub fn kept(places: usize, random: &Random) -> u16 {
 /// Makes an image unsound, or puts its numbers out of range, in one way.
 pub fn spoil_image(image: &mut [u8], places: usize, random: &Random) {
     let number = |value: usize| (value as u16).to_be_bytes();
-    match random.within(0..=5) {
+    match random.within(0..=6) {
         0 => image[20] = random.pick(&[13, 14, 16, 128, 255]),
         1 => {
             let depth = random.within(0..=STACK - 1);
@@ -99,8 +111,9 @@ pub fn spoil_image(image: &mut [u8], places: usize, random: &Random) {
             image[24 + 2 * entry + random.within(0..=1)] = random.pick(&[1, 2, 128, 255]);
         }
         2 => image[23] = random.within(16..=254) as u8,
-        3 => image[random.within(52..=63)] = random.pick(&[1, 128, 255]),
-        4 => {
+        3 => image[random.pick(&LATER)] = random.pick(&[1, 128, 255]),
+        4 => image[52] = no_edition(random),
+        5 => {
             let next = random.pick(&[places, places + 1, 256, 0x8000, 0xFFFF]);
             image[48..50].copy_from_slice(&number(next));
         }

@@ -1,8 +1,10 @@
 //! Instruction words, kind by kind, and operands at the edges.
 
 use crate::random::Random;
+use crate::second::SECOND_EDITION;
 
-/// Every listed instruction with its free digits 0, and which of them are free.
+/// Every instruction that both editions list, with its free digits 0, and which
+/// of them are free.
 pub const LISTED: &[(u16, u16)] = &[
     (0x00E0, 0x0000),
     (0x00EE, 0x0000),
@@ -36,9 +38,23 @@ pub const LISTED: &[(u16, u16)] = &[
     (0xF065, 0x0F00),
 ];
 
-/// A listed instruction. Its digits are often 0 or F, and often equal.
-pub fn listed(random: &Random) -> u16 {
-    let (word, free) = random.pick(LISTED);
+/// What an edition lists beside them.
+pub fn added(edition: u8) -> &'static [(u16, u16)] {
+    match edition {
+        SECOND_EDITION => &[
+            (0x8003, 0x0FF0),
+            (0x8006, 0x0FF0),
+            (0x8007, 0x0FF0),
+            (0x800E, 0x0FF0),
+        ],
+        _ => &[],
+    }
+}
+
+/// An instruction that the edition lists. Its digits are often 0 or F, and often
+/// equal.
+pub fn listed(edition: u8, random: &Random) -> u16 {
+    let (word, free) = random.pick(&[LISTED, added(edition)].concat());
     let digits = match random.within(0..=5) {
         0 => 0x0FFF,
         1 => 0x0F00 | random.word(),
@@ -50,15 +66,15 @@ pub fn listed(random: &Random) -> u16 {
 }
 
 /// Mostly listed; otherwise any word at all, or a listed one with a bit wrong.
-pub fn any(random: &Random) -> u16 {
+pub fn any(edition: u8, random: &Random) -> u16 {
     match random.within(0..=15) {
         0 => random.word(),
-        1 => listed(random) ^ 1 << random.within(0..=15),
+        1 => listed(edition, random) ^ 1 << random.within(0..=15),
         2 => random.pick(&[
-            0x0000, 0x00E1, 0x00EF, 0x01E0, 0x0FEE, 0x5121, 0x8123, 0x8126, 0x8127, 0x812E, 0x9121,
-            0xE19F, 0xE1A0, 0xF100, 0xF130, 0xF175, 0xF185, 0xFFFF,
+            0x0000, 0x00E1, 0x00EF, 0x01E0, 0x0FEE, 0x5121, 0x8123, 0x8126, 0x8127, 0x812E, 0x8128,
+            0x812F, 0x9121, 0xE19F, 0xE1A0, 0xF100, 0xF130, 0xF175, 0xF185, 0xFFFF,
         ]),
-        _ => listed(random),
+        _ => listed(edition, random),
     }
 }
 
@@ -78,11 +94,20 @@ pub fn using_memory(random: &Random) -> u16 {
     }
 }
 
-/// 8XY0 to 8XY5 with VF among the operands, which most of them also write.
-pub fn using_the_flag(random: &Random) -> u16 {
-    let kind = random.pick(&[0x8000, 0x8001, 0x8001, 0x8002, 0x8002, 0x8004, 0x8005]);
-    let operands = random.pick(&[0x0F00, 0x00F0]);
-    kind | operands | random.word() & 0x0FF0
+/// An operation on two registers, 8XY0 or another.
+pub fn of_two_registers(edition: u8, random: &Random) -> u16 {
+    let kinds = [0x8000, 0x8001, 0x8002, 0x8004, 0x8005];
+    let added = added(edition);
+    let kind = match !added.is_empty() && random.once_in(2) {
+        true => random.pick(added).0,
+        false => random.pick(&kinds),
+    };
+    kind | random.word() & 0x0FF0
+}
+
+/// The same with VF among the operands, which most of them also write.
+pub fn using_the_flag(edition: u8, random: &Random) -> u16 {
+    of_two_registers(edition, random) | random.pick(&[0x0F00, 0x00F0])
 }
 
 /// How many bytes from I a word needs, to find the edge for it.

@@ -1,10 +1,12 @@
 //! The kinds of cases.
 
 use super::{calls, hosts, instructions, programs, records};
-use crate::case::{write_bytes, Call, Case, Host, Part};
+use crate::buffers::{Host, Part};
+use crate::case::{write_bytes, Call, Case};
 use crate::random::Random;
 use crate::second::{
-    places, Machine, HISTORY_MOST, LIST_MOST, MEMORY, MOVE_BACK, MOVE_STEP, PICTURE, PLACE, START,
+    places, Machine, FIRST_EDITION, HISTORY_MOST, LIST_MOST, MEMORY, MOVE_BACK, MOVE_STEP, PICTURE,
+    PLACE, START,
 };
 
 /// Again and again a new machine and an instruction at its PC, with operands at
@@ -14,12 +16,12 @@ pub fn one_instruction_at_a_time(random: &Random) -> Case {
     let places = places(&start.history);
     let mut made = Vec::new();
     for _ in 0..random.within(1..=24) {
+        let mut machine = hosts::machine(places, random);
         let word = match random.within(0..=5) {
             0 | 1 => instructions::using_memory(random),
-            2 => instructions::using_the_flag(random),
-            _ => instructions::any(random),
+            2 => instructions::using_the_flag(machine.edition, random),
+            _ => instructions::any(machine.edition, random),
         };
-        let mut machine = hosts::machine(places, random);
         machine.i = instructions::i_for(word, random);
         instructions::bring_near(word, &mut machine.v, random);
         machine.kept = hosts::kept(places, random);
@@ -127,7 +129,7 @@ pub fn key_waits(random: &Random) -> Case {
     for at in 0..20 {
         let x = u16::from(random.byte() & 15) << 8;
         let word = match random.within(0..=3) {
-            0 => instructions::listed(random),
+            0 => instructions::listed(machine.edition, random),
             _ => 0xF00A | x,
         };
         let at = usize::from(START) + 2 * at;
@@ -171,9 +173,7 @@ pub fn deep_calls(random: &Random) -> Case {
 
 /// A long sequence of calls on a program that runs for long.
 pub fn walk_of_a_program(random: &Random) -> Case {
-    let mut made = vec![Call::Load {
-        program: programs::ring(random),
-    }];
+    let mut made = vec![load_of_a_ring(random)];
     let start = empty_host(hosts::walk_history_length(random));
     let most = random.pick(&[60, 200, 200, 1000]);
     made.extend(walk(most, places(&start.history), random));
@@ -183,15 +183,24 @@ pub fn walk_of_a_program(random: &Random) -> Case {
 /// The same on a program of any instructions, from any sound state.
 pub fn walk_of_wild_bytes(random: &Random) -> Case {
     let mut start = hosts::sound(random);
-    let program = programs::wild(random);
     let machine = Machine {
         pc: START,
         ..Machine::from_image(&start.image)
     };
+    let program = programs::wild(machine.edition, random);
     start.image = machine.to_image().to_vec();
     write_bytes(&mut start.memory, usize::from(START), &program);
     let made = walk(100, places(&start.history), random);
     Case { start, calls: made }
+}
+
+/// A program that runs for long, in the edition that it is written for.
+fn load_of_a_ring(random: &Random) -> Call {
+    let edition = hosts::edition(random);
+    Call::Load {
+        program: programs::ring(edition, random),
+        edition,
+    }
 }
 
 /// Steps, ticks, runs and plays, with backs in rows now and then, sometimes as
@@ -222,9 +231,7 @@ fn walk(most: usize, places: usize, random: &Random) -> Vec<Call> {
 
 /// Lists of a few dozen entries, on histories that come round in them.
 pub fn short_lists(random: &Random) -> Case {
-    let mut made = vec![Call::Load {
-        program: programs::ring(random),
-    }];
+    let mut made = vec![load_of_a_ring(random)];
     for _ in 0..random.within(1..=6) {
         let entries = random.within(1..=80);
         made.push(calls::run(entries, random));
@@ -242,9 +249,7 @@ pub fn long_lists(random: &Random) -> Case {
         true => HISTORY_MOST,
         false => hosts::walk_history_length(random),
     });
-    let mut made = vec![Call::Load {
-        program: programs::ring(random),
-    }];
+    let mut made = vec![load_of_a_ring(random)];
     let entries = random.pick(&[LIST_MOST - 1, LIST_MOST, random.within(100..=900)]);
     let mut run = calls::run(entries, random);
     if let Call::Run { ticks, .. } = &mut run {
@@ -266,7 +271,7 @@ pub fn long_lists(random: &Random) -> Case {
 
 fn empty_host(history_length: usize) -> Host {
     Host {
-        image: Machine::fresh().to_image().to_vec(),
+        image: Machine::fresh(FIRST_EDITION).to_image().to_vec(),
         memory: vec![0; MEMORY],
         picture: vec![0; PICTURE],
         history: vec![0; history_length],

@@ -9,7 +9,7 @@ const DATA: u16 = 0x0800;
 
 /// A jump over thirteen subroutines, each calling the next, and then a ring of
 /// pieces.
-pub fn ring(random: &Random) -> Vec<u8> {
+pub fn ring(edition: u8, random: &Random) -> Vec<u8> {
     let routines = CODE + 6;
     let mut words = vec![0x1000 | (routines + 13 * 8), 0x0000, 0x0000];
     for level in 0..13u16 {
@@ -22,13 +22,13 @@ pub fn ring(random: &Random) -> Vec<u8> {
         words.extend([skip, deeper, 0x7E05, 0x00EE]);
     }
     for _ in 0..random.within(1..=40) {
-        words.extend(piece(routines, random));
+        words.extend(piece(routines, edition, random));
     }
     words.push(0x1000 | CODE);
     words.iter().flat_map(|word| word.to_be_bytes()).collect()
 }
 
-fn piece(routines: u16, random: &Random) -> Vec<u16> {
+fn piece(routines: u16, edition: u8, random: &Random) -> Vec<u16> {
     let x = u16::from(random.byte() & 15) << 8;
     let far = DATA + (random.word() & 0x07FF);
     match random.within(0..=15) {
@@ -41,36 +41,29 @@ fn piece(routines: u16, random: &Random) -> Vec<u16> {
         8 => vec![0xF015 | x, 0xF018 | x, 0xF007 | x],
         9 => vec![0xA000 | far, 0xF01E | x, 0xF055 | x, 0xF065 | x],
         10 => vec![0xE09E | x, 0xE0A1 | x, 0x6000 | x],
-        11 if random.once_in(8) => vec![instructions::any(random)],
+        11 if random.once_in(8) => vec![instructions::any(edition, random)],
         12 => {
             let flag = u16::from(random.byte());
-            vec![0x6F00 | flag, instructions::using_the_flag(random)]
+            vec![0x6F00 | flag, instructions::using_the_flag(edition, random)]
         }
-        _ => calm(random),
+        _ => calm(edition, random),
     }
 }
 
 /// Instructions that touch nothing but registers.
-fn calm(random: &Random) -> Vec<u16> {
-    let kinds = [
-        0x3000, 0x4000, 0x5000, 0x6000, 0x7000, 0x8000, 0x8001, 0x8002, 0x8004, 0x8005, 0x9000,
-        0xC000,
-    ];
+fn calm(edition: u8, random: &Random) -> Vec<u16> {
     (0..random.within(1..=6))
-        .map(|_| {
-            let kind = random.pick(&kinds);
-            let free = match kind >> 12 {
-                0x5 | 0x8 | 0x9 => 0x0FF0,
-                _ => 0x0FFF,
-            };
-            kind | random.word() & free
+        .map(|_| match random.within(0..=11) {
+            0..=4 => instructions::of_two_registers(edition, random),
+            5 | 6 => random.pick(&[0x5000, 0x9000]) | random.word() & 0x0FF0,
+            _ => random.pick(&[0x3000, 0x4000, 0x6000, 0x7000, 0xC000]) | random.word() & 0x0FFF,
         })
         .collect()
 }
 
 /// Any instructions in any order.
-pub fn wild(random: &Random) -> Vec<u8> {
+pub fn wild(edition: u8, random: &Random) -> Vec<u8> {
     (0..random.within(1..=200))
-        .flat_map(|_| instructions::any(random).to_be_bytes())
+        .flat_map(|_| instructions::any(edition, random).to_be_bytes())
         .collect()
 }

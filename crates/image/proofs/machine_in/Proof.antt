@@ -9,11 +9,12 @@ use Rattle.image.proofs.machine_in.Tie as tie
 returns : tie.Need-returns
 unfolding machineOf
 returns c at =
-    let depth = c .before .before in
+    let wait = c .before in
+    let depth = wait .before .before in
     let pc = depth .before .before .before in
     let arrays = pc .before .before .before in
     let image = arrays .before .before .before .before .args .image .now in
-    let calls : depth .depth-of .result ≡ depthOf image = rw (depth .depth-of .ensures, depth .before .before .ends-clear .ensures) in
+    let calls : depth .depth-of .result ≡ depthOf image = rw (depth .depth-of .ensures, depth .before .before .in-order .ensures) in
     record {
       v = arrays .before .before .registers-in .ensures at;
       i = pc .before .word-at .ensures at;
@@ -21,8 +22,9 @@ returns c at =
       stack = arrays .before .stack-in .ensures at;
       depth = calls at;
       timers = record { delay = byteAt image 21; tone = byteAt image 22 };
-      wait = c .wait-of .ensures at;
+      wait = wait .wait-of .ensures at;
+      edition = c .edition-of .ensures at;
     }
 
 pub machine-in-spec : {M : Type 1} → statement M
-machine-in-spec = tie.close (tie.spec (λ c κs. omega arith) (λ c κs. omega arith) (λ c. omega arith) (λ c. omega arith) (λ c κs. omega arith) (λ c κs. omega arith) (λ c κs. omega arith) (λ c. omega arith) (λ c κs. tt) (λ c. omega arith) (λ c κs. tt) returns)
+machine-in-spec = tie.close (tie.spec (λ c κs. omega arith) (λ c κs. omega arith) (λ c. omega arith) (λ c. omega arith) (λ c κs. omega arith) (λ c κs. omega arith) (λ c κs. omega arith) (λ c. omega arith) (λ c κs. tt) (λ c. omega arith) (λ c κs. tt) (λ c. omega arith) (λ c κs. tt) returns)

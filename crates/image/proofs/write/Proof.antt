@@ -1,4 +1,4 @@
--- Each piece stands behind the one before it, and zeros behind the last.
+-- Each piece stands behind the one before it, to the end.
 use native.Mathlib.Omega.{arith}
 use Rattle.image.specs.Image.{sixFrom, imageOf}
 use Rattle.image.proofs.Pieces.{image-laid}
@@ -8,14 +8,14 @@ use Rattle.image.proofs.write.Tie as tie
 returns : tie.Need-returns
 unfolding imageOf
 returns c =
-    let clear = c .before .before in
-    let numbers = clear .before .before .before .before in
+    let tail = c .before .before in
+    let numbers = tail .before .before .before .before in
     let stack = numbers .before .before .before .before in
     let middle = stack .before .before .before .before in
     let variables = middle .before .before .before .before in
     let s = variables .before .before .before .before .before .args .m .stack in
     image-laid (sixFrom 0 s) (sixFrom 6 s) (variables .lay-variables .ensures) (middle .lay-middle .ensures) (stack .lay-stack .ensures)
-    (numbers .lay-numbers .ensures) (omega arith) (clear .clear .ensures)
+    (numbers .lay-numbers .ensures) (tail .lay-tail .ensures) (omega arith)
 
 pub write-spec : {M : Type 1} → statement M
 write-spec =

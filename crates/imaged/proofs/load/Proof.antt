@@ -1,13 +1,10 @@
--- The library's load, and the fresh image, refused or not.
+-- By the test of the byte: no edition, or the load of the one that it names.
+use mathlib.Core.Path.{refl}
 use native.Mathlib.Omega.{arith}
-use mathlib.Core.Bool.{true}
 use borrow.Author.Needs.{needs}
-use Rattle.imaged.proofs.Laws.{seen}
+use borrow.Author.Tests.{le-leb, lt-leb}
 use Rattle.imaged.proofs.load.Statement.{statement}
 use Rattle.imaged.proofs.load.Tie as tie
 
-returns : tie.Need-returns
-returns c = seen (λ n. true) _ (c .before .before .before .before .before .before .before .before .before .before .before .before .before .before .before .before .before .before .before .before .before .before .args .image .now) _ _ _ _ _ _ _ _ (c .before .before .before .before .before .before .before .before .before .before .before .before .before .load .ensures) (c .number .ensures) (c .before .before .before .write .ensures)
-
 pub load-spec : {M : Type 1} → statement M
-load-spec = tie.close (tie.spec (search needs) (search needs) (search needs) (λ c. omega arith) (λ c. omega arith) (λ c. omega arith) (λ c. omega arith) returns)
+load-spec = tie.close (tie.spec ?)

@@ -5,10 +5,10 @@ use Rattle.judge.proofs.is_sound.Statement.{statement}
 use Rattle.judge.proofs.is_sound.Tie as tie
 
 returns : tie.Need-returns
-returns c = rw (lt-leb _ _ (c .if1 .taken))
+returns c = rw (lt-leb _ 12 (c .if1 .taken))
 
 returns-2 : tie.Need-returns-2
-returns-2 c = rw (c .before .clear-from .ensures, c .held-sound .ensures, le-leb _ _ (c .before .before .before .if1 .left))
+returns-2 c = rw (c .before .clear-from .ensures, c .held-sound .ensures, le-leb _ 12 (c .before .before .before .if1 .left))
 
 pub is-sound-spec : {M : Type 1} → statement M
 is-sound-spec = tie.close (tie.spec (λ c. search needs) returns (λ c κs. search needs) (λ c κs. search needs) returns-2)

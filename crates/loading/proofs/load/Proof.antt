@@ -1,6 +1,5 @@
 -- Refused before anything is written, or laid out and cleared.
 use mathlib.Core.Path.{sym, ap, _∙_}
-use native.Mathlib.Nat.{sub-zero}
 use borrow.Author.Needs.{needs}
 use Rattle.rules.specs.Refusal.{number}
 use Rattle.loading.proofs.Loaded.{load-refused, load-room, load-gives}
@@ -14,13 +13,13 @@ returns c =
 
 lay-out-requires : tie.Need-lay-out-requires
 lay-out-requires c κs =
-    let room = load-room _ _ _ _ _ (sym (c .before .before .before .judged .ensures) ∙ ap number (c .before .enum-told .given .1)) in
-    (room .sizes .memory, room .short)
+    let room = load-room _ _ _ _ (sym (c .before .before .before .judged .ensures) ∙ ap number (c .before .enum-told .given .1)) in
+    (room .memory, room .short)
 
 returns-2 : tie.Need-returns-2
 returns-2 c =
     rw (c .before .before .before .before .before .before .before .before .before .before .before .before .before .before .before .before .before .before .fresh .ensures)
-    (load-gives _ _ _ _ _ (sym (c .before .before .before .before .before .before .before .before .before .before .before .before .before .before .judged .ensures) ∙ ap number (c .before .before .before .before .before .before .before .before .before .before .before .before .enum-told .given .1)) _ _ _ (c .before .before .before .before .before .before .before .before .before .before .lay-out .ensures) (rw sub-zero at (c .before .before .before .before .before .before .clear .ensures)) (rw sub-zero at (c .before .before .clear2 .ensures)))
+    (load-gives _ _ _ _ _ (sym (c .before .before .before .before .before .before .before .before .before .before .before .before .before .before .judged .ensures) ∙ ap number (c .before .before .before .before .before .before .before .before .before .before .before .before .enum-told .given .1)) _ _ _ (c .before .before .before .before .before .before .before .before .before .before .lay-out .ensures) (c .before .before .before .before .before .before .clear .ensures) (c .before .before .clear2 .ensures))
 
 pub load-spec : {M : Type 1} → statement M
 load-spec =

@@ -10,10 +10,10 @@ use Rattle.panel.proofs.panel.Statement.{statement}
 use Rattle.panel.proofs.panel.Tie as tie
 
 returns : tie.Need-returns
-returns c = refused _ _ _ (rw (ne-eqb _ _ (c .if1 .taken))) refl
+returns c = refused _ _ _ (rw (ne-eqb _ 256 (c .if1 .taken))) refl
 
 returns-2 : tie.Need-returns-2
-returns-2 c = refused _ _ _ (rw (ne-eqb _ _ (c .if2 .taken), and-false)) refl
+returns-2 c = refused _ _ _ (rw (ne-eqb _ 1024 (c .if2 .taken), and-false)) refl
 
 fill-upper-requires : tie.Need-fill-upper-requires
 unfolding twice
@@ -24,7 +24,7 @@ returns-3 c =
     let lower = c .before .before in
     let upper = lower .before .before .before .before in
     let tests = upper .before .before .before in
-    filled _ _ _ _ (rw (eq-eqb _ _ (tests .before .if1 .left), eq-eqb _ _ (tests .if2 .left))) refl
+    filled _ _ _ _ (rw (eq-eqb _ 256 (tests .before .if1 .left), eq-eqb _ 1024 (tests .if2 .left))) refl
     (both-rows _ _ _ (upper .fill-upper .ensures) (lower .repeat-rows .ensures))
 
 pub panel-spec : {M : Type 1} → statement M

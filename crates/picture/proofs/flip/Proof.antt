@@ -1,10 +1,11 @@
 -- The two bytes turned over as one number are each turned over.
-use mathlib.Core.Path.{refl}
-use Prim.Native.Nat.{_+_}
+use mathlib.Core.Path.{refl, ap}
+use Prim.Native.Nat.{ℕ, _+_}
 use native.Mathlib.Omega.{arith}
 use lib.ListN.{length-set}
+use lib.Bits.{bitAnd}
 use borrow.Author.Needs.{needs}
-use Rattle.picture.proofs.Laws.{word-turned}
+use Rattle.picture.proofs.Rows.{word-turned}
 use Rattle.picture.proofs.flip.Statement.{statement}
 use Rattle.picture.proofs.flip.Tie as tie
 
@@ -12,7 +13,7 @@ returns : tie.Need-returns
 returns c =
     let known = c .before .before .before .before in
     let args = known .before .args in (
-      rw (c .before .before .word-at .ensures),
+      ap (λ (old : ℕ). bitAnd old (args .mask)) (c .before .before .word-at .ensures),
       λ n.
           word-turned (args .picture .now) (args .k) (args .mask) n
           (omega (arith, known .slice-known .given (args .k))) (omega (arith, known .slice-known .given (args .k + 1))) (omega arith)

@@ -8,7 +8,8 @@ use lib.Count.{ones}
 use lib.ListN.{length, getD}
 use Rattle.rules.specs.Record.{wordAt}
 use Rattle.picture.specs.Bytes.{shifted, rowsLaid}
-use Rattle.picture.proofs.Laws.{ones-zero, Packed, nothing-packed, one-more, side-by-side, room, out-packed, one-row-more}
+use Rattle.picture.proofs.Packed.{ones-zero, Packed, nothing-packed, one-more, side-by-side, room, out-packed}
+use Rattle.picture.proofs.Rows.{one-row-more}
 use Rattle.picture.proofs.seven.Statement.{statement}
 use Rattle.picture.proofs.seven.Tie as tie
 

@@ -5,7 +5,7 @@ use native.Mathlib.Omega.{arith}
 use borrow.Author.Needs.{needs}
 use Rattle.rules.specs.declared.Wait.the-variants.{Idle}
 use Rattle.rules.specs.State.{withWait}
-use Rattle.picture.proofs.Laws.{few-darkened}
+use Rattle.picture.proofs.Rows.{few-darkened}
 use Rattle.transfers.proofs.draw.Statement.{statement}
 use Rattle.transfers.proofs.draw.Tie as tie
 

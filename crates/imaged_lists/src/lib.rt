@@ -1,0 +1,97 @@
+// A run and a play on a machine that stands in an image of the right length: it is read, the call is made, and what the call gave is
+// written back.
+ghost use mathlib.Core.Path.{_≡_};
+ghost use lib.ListN.{length};
+ghost use Rattle.rules.specs.Number.{pick};
+ghost use Rattle.rules.specs.Refusal as refusal;
+ghost use Rattle.rules.specs.Run as rules_run;
+ghost use Rattle.rules.specs.Dark.{runDark};
+ghost use Rattle.rules.specs.Past.{PlayTells};
+ghost use Rattle.image.specs.Image.{imageSize, inOrder, imageOf};
+ghost use Rattle.imaged.specs.Imaged.{worldOf, ranOn, playedOn, Leaves};
+use imaged::Told;
+use imaged::number;
+use parts::Answer;
+
+// After a run or a play. One that is refused itself hands back the state as it came, so to write that changes no byte; and an image that
+// is not in order, which no call takes, is left.
+fn after_list(image: &mut [u8], answer: Answer) -> u32
+    requires { ⌜ length (now image) ≡ imageSize ⌝ }
+    ensures { λ r. ⌜ (r ≡ refusal.number (answer .outcome)) × (now (image .exit) ≡ pick (inOrder (now (image .entry)))
+        (imageOf (answer .machine) (answer .trail)) (now (image .entry))) ⌝ }
+{
+    let outcome = answer.outcome;
+    let n = number(outcome);
+    if image::in_order(image) {
+        let machine = answer.machine;
+        let trail = answer.trail;
+        image::write(image, machine, trail);
+    }
+    n
+}
+
+pub fn run(
+    image: &mut [u8],
+    memory: &mut [u8],
+    picture: &mut [u8],
+    history: &mut [u8],
+    ticks: &[u8],
+    keys: &[u16],
+    randoms: &[u8],
+) -> Told
+    requires { ⌜ length (now image) ≡ imageSize ⌝ }
+    ensures { λ r. ⌜ Leaves
+        (ranOn (now (ticks .entry)) (now (keys .entry)) (now (randoms .entry)) (now (image .entry)) (now (memory .entry))
+        (now (picture .entry)) (now (history .entry))) (r .number) (now (image .exit)) (now (memory .exit)) (now (picture .exit))
+        (now (history .exit)) ⌝ }
+    ensures { λ r. ⌜ (r .accepted ≡ (rules_run.run (now (ticks .entry)) (now (keys .entry)) (now (randoms .entry))
+        (worldOf (now (image .entry)) (now (memory .entry)) (now (picture .entry)) (now (history .entry)))) .accepted)
+        × (r .dark ≡ runDark (now (ticks .entry)) (now (keys .entry)) (now (randoms .entry))
+        (worldOf (now (image .entry)) (now (memory .entry)) (now (picture .entry)) (now (history .entry)))) ⌝ }
+{
+    let before = image::read(image);
+    let m = before.machine;
+    let t = before.trail;
+    let ran = chip8::run(m, t, memory, picture, history, ticks, keys, randoms);
+    let outcome = ran.outcome;
+    let machine = ran.machine;
+    let trail = ran.trail;
+    let n = after_list(
+        image,
+        Answer {
+            outcome,
+            machine,
+            trail,
+        },
+    );
+    Told {
+        number: n,
+        accepted: ran.accepted as u64,
+        dark: ran.dark as u64,
+    }
+}
+
+pub fn play(
+    image: &mut [u8],
+    memory: &mut [u8],
+    picture: &mut [u8],
+    history: &mut [u8],
+    moves: &[u8],
+    keys: &[u16],
+    randoms: &[u8],
+) -> u32
+    requires { ⌜ length (now image) ≡ imageSize ⌝ }
+    ensures { λ r. ⌜ Leaves
+        (playedOn (now (moves .entry)) (now (keys .entry)) (now (randoms .entry)) (now (image .entry)) (now (memory .entry))
+        (now (picture .entry)) (now (history .entry))) r (now (image .exit)) (now (memory .exit)) (now (picture .exit))
+        (now (history .exit)) ⌝ }
+    ensures { λ r. ⌜ PlayTells (now (moves .entry)) (now (keys .entry)) (now (randoms .entry))
+        (worldOf (now (image .entry)) (now (memory .entry)) (now (picture .entry)) (now (history .entry)))
+        (worldOf (now (image .exit)) (now (memory .exit)) (now (picture .exit)) (now (history .exit))) ⌝ }
+{
+    let before = image::read(image);
+    let m = before.machine;
+    let t = before.trail;
+    let answer = chip8::play(m, t, memory, picture, history, moves, keys, randoms);
+    after_list(image, answer)
+}
