@@ -9,7 +9,7 @@ use Rattle.image.proofs.machine_in.Tie as tie
 returns : tie.Need-returns
 unfolding machineOf
 returns c at =
-    let wait = c .before in
+    let wait = c .before .before in
     let depth = wait .before .before in
     let pc = depth .before .before .before in
     let arrays = pc .before .before .before in
