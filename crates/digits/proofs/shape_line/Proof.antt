@@ -18,4 +18,4 @@ returns-2 : tie.Need-returns-2
 returns-2 c = rw (le-ltb _ 5 (c .if1 .left))
 
 pub shape-line-spec : {M : Type 1} → statement M
-shape-line-spec = tie.close (tie.spec (search needs) (search needs) (search needs) (search needs) (λ c. refl) (λ c. refl) digit-byte-requires returns returns-2)
+shape-line-spec = tie.close (tie.spec (search needs) (search needs) (search needs) (λ c. refl) (λ c. refl) digit-byte-requires returns returns-2)

@@ -22,4 +22,4 @@ returns-2 c =
     rw (lt-ltb (place at) 18 (omega arith), and-true, c .shape-line .ensures, whole, c .before .digit .ensures .0, c .before .before .value .ensures)
 
 pub page-byte-spec : {M : Type 1} → statement M
-page-byte-spec = tie.close (tie.spec (search needs) (search needs) returns (λ c κs. search needs) (λ c κs. search needs) (λ c κs. search needs) returns-2)
+page-byte-spec = tie.close (tie.spec (search needs) (search needs) (search needs) returns (λ c κs. search needs) (λ c κs. search needs) (λ c κs. search needs) returns-2)

@@ -15,13 +15,13 @@ returns c =
 
 returns-2 : tie.Need-returns-2
 returns-2 c =
-    let a = c .before .before .before .args in
+    let a = c .before .before .args in
     rw (le-ltb (a .k) 16 (omega arith), eq-eqb (a .k) 16 (omega arith))
 
 returns-3 : tie.Need-returns-3
 returns-3 c =
-    let a = c .before .before .before .args in
+    let a = c .before .before .args in
     rw (le-ltb (a .k) 16 (omega arith), ne-eqb (a .k) 16 (c .if2 .left))
 
 pub value-spec : {M : Type 1} → statement M
-value-spec = tie.close (tie.spec (search needs) returns (λ c κs. search needs) returns-2 (λ c κs. search needs) returns-3)
+value-spec = tie.close (tie.spec (search needs) returns (λ c. search needs) returns-2 (λ c. search needs) returns-3)
