@@ -39,7 +39,7 @@ fn run(program: &[u8], picture: &mut [u8]) -> Ran {
 }
 
 // The dots of the glass, of whichever the switch names.
-fn glass_of(switch: Switch, picture: &[u8], page: &[u8]) -> [u8; 1024] {
+fn glass_of<'a>(switch: Switch, picture: &'a [u8], page: &'a [u8]) -> [u8; 1024] {
     let mut glass = [0u8; 1024];
     panel::panel(stepper::show(switch, picture, page), &mut glass);
     glass
