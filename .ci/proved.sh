@@ -29,12 +29,12 @@ find_emulator() {
 }
 
 # The proved program stands in target/bin, where rt check and rt ci put it.
-run_proved() { # PROGRAM FILE
+run_proved() { # PROGRAM FILE [WORD]
     find_emulator
     loader=$tools/lib/ld-linux-x86-64.so.2
     if [ -f "$loader" ]; then
-        ${emulator:+"$emulator"} "$loader" --library-path "$tools/lib" "$root/target/bin/$1" <"$2"
+        ${emulator:+"$emulator"} "$loader" --library-path "$tools/lib" "$root/target/bin/$1" ${3:+"$3"} <"$2"
     else
-        ${emulator:+"$emulator"} "$root/target/bin/$1" <"$2"
+        ${emulator:+"$emulator"} "$root/target/bin/$1" ${3:+"$3"} <"$2"
     fi
 }

@@ -4,7 +4,9 @@
  * Link with the static library libcard.a. Six functions load a program, make
  * one step or one clock tick, go one action back, run a list of inputs, and
  * play a list of moves. A seventh turns the picture into the bytes of the
- * card's own panel. A load chooses the edition of the instruction set.
+ * card's own panel, and an eighth draws a page of the variables, for a dock that
+ * shows the game or its insides. A load chooses the edition of the instruction
+ * set.
  *
  * THE BUFFERS
  *
@@ -23,6 +25,11 @@
  *
  *   panel    1,024 bytes   128 by 64 dots, 16 bytes a row, top row first, the
  *                          highest bit leftmost, 1 for a lit dot
+ *
+ * and for card_page alone:
+ *
+ *   page     256 bytes     spots as in a picture, so card_panel turns it into
+ *                          dots too
  *
  * Each buffer is handed over as a pointer and, right after it, its length. The
  * length counts elements: bytes, 16-bit numbers for keys, 64-bit numbers for an
@@ -98,6 +105,7 @@ extern "C" {
 #define CARD_PANEL_COLUMNS 128
 #define CARD_PANEL_ROWS 64
 #define CARD_PANEL_BYTES_A_ROW 16
+#define CARD_PAGE 256
 #define CARD_PLACE 288
 #define CARD_HISTORY_LEAST 288
 #define CARD_HISTORY_MOST 65536
@@ -140,6 +148,7 @@ enum card_refusal {
  *   run   9, 10, then that of the step that ended it
  *   play  9, 10, then that of the last move
  *   panel 9
+ *   page  9, 10
  */
 
 /* ---- The image ---------------------------------------------------------- */
@@ -293,6 +302,21 @@ uint32_t card_play(uint8_t *image, size_t image_length,
  */
 uint32_t card_panel(const uint8_t *picture, size_t picture_length,
                     uint8_t *panel, size_t panel_length);
+
+/*
+ * Draws a page of the variables afresh: V0 to VF as pairs of digits, high digit
+ * first, four variables a row, and PC as four digits below them. A digit is the
+ * pattern of 8 by 5 spots that a program gets by FX29, whatever stands in memory.
+ * The patterns stand at columns 0, 8 and so on to 56; their rows start at row 0,
+ * 6, 12 and 18, that of PC at 24. All other spots are dark. The image is only
+ * read, and the game's own picture is not touched.
+ *
+ * An image of other than 64 bytes or a page of other than 256 is CARD_LENGTH, and
+ * an image of a state that cannot be is CARD_UNSOUND; next and kept are not
+ * looked at. The page is then as it came.
+ */
+uint32_t card_page(const uint8_t *image, size_t image_length,
+                   uint8_t *page, size_t page_length);
 
 #ifdef __cplusplus
 }

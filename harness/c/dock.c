@@ -28,6 +28,8 @@ struct desk {
     uint8_t guard_5[GUARD];
     uint8_t panel[CARD_PANEL];
     uint8_t guard_6[GUARD];
+    uint8_t page[CARD_PAGE];
+    uint8_t guard_7[GUARD];
 };
 
 static struct desk desk;
@@ -54,6 +56,7 @@ static void set_guards(void) {
     memset(desk.guard_4, GUARD_BYTE, GUARD);
     memset(desk.guard_5, GUARD_BYTE, GUARD);
     memset(desk.guard_6, GUARD_BYTE, GUARD);
+    memset(desk.guard_7, GUARD_BYTE, GUARD);
 }
 
 static void look_at_guard(const uint8_t *guard) {
@@ -73,6 +76,7 @@ static uint32_t after_call(uint32_t refusal) {
     look_at_guard(desk.guard_4);
     look_at_guard(desk.guard_5);
     look_at_guard(desk.guard_6);
+    look_at_guard(desk.guard_7);
     return refusal;
 }
 
@@ -131,6 +135,11 @@ static uint32_t fill_panel(void) {
                                  desk.panel, sizeof desk.panel));
 }
 
+static uint32_t draw_page(void) {
+    return after_call(card_page(desk.image, sizeof desk.image,
+                                desk.page, sizeof desk.page));
+}
+
 /* ---- Looking at the machine --------------------------------------------- */
 
 static unsigned number(int at) {
@@ -157,12 +166,15 @@ static void show_state(void) {
            number(CARD_AT_KEPT));
 }
 
-static void show_rows(int first, int last) {
+static int spot(const uint8_t *picture, int x, int y) {
+    return picture[CARD_BYTES_A_ROW * y + x / 8] >> (7 - x % 8) & 1;
+}
+
+static void show_rows(const uint8_t *picture, int first, int last) {
     for (int row = first; row <= last; row++) {
         printf("row %2d ", row);
         for (int column = 0; column < CARD_COLUMNS; column++) {
-            uint8_t byte = desk.picture[CARD_BYTES_A_ROW * row + column / 8];
-            putchar(byte >> (7 - column % 8) & 1 ? '#' : '.');
+            putchar(spot(picture, column, row) ? '#' : '.');
         }
         putchar('\n');
     }
@@ -211,7 +223,7 @@ static void there_and_back(void) {
     for (int count = 0; count < 5; count++) {
         accepted_step(0);
     }
-    show_rows(29, 31);
+    show_rows(desk.picture, 29, 31);
     expect(desk.answer[CARD_WENT_DARK] == 0, "the picture was dark before");
     accepted_step(0);
     printf("%u spots went dark\n", (unsigned)desk.answer[CARD_WENT_DARK]);
@@ -219,7 +231,7 @@ static void there_and_back(void) {
     for (int count = 0; count < 6; count++) {
         accepted_step(0);
     }
-    show_rows(29, 31);
+    show_rows(desk.picture, 29, 31);
     for (int count = 0; count < 5; count++) {
         expect(tick() == CARD_DONE, "a tick was refused");
     }
@@ -377,11 +389,15 @@ static void refusals(void) {
     refused(after_call(card_panel(desk.picture, sizeof desk.picture,
                                   desk.panel, sizeof desk.panel - 1)),
             CARD_LENGTH, "a panel of 1,023 bytes");
+    refused(after_call(card_page(desk.image, sizeof desk.image,
+                                 desk.page, sizeof desk.page - 1)),
+            CARD_LENGTH, "a page of 255 bytes");
 
     prepare(0x6000);
     desk.image[CARD_AT_DEPTH] = CARD_STACK + 1;
     remember();
     refused(step(0, 0), CARD_UNSOUND, "depth 13");
+    refused(draw_page(), CARD_UNSOUND, "a page of depth 13");
 
     prepare(0x6000);
     desk.image[CARD_AT_LATER] = 1;
@@ -449,10 +465,6 @@ static void one_place(void) {
 
 /* ---- The card's own panel ----------------------------------------------- */
 
-static int spot(int x, int y) {
-    return desk.picture[CARD_BYTES_A_ROW * y + x / 8] >> (7 - x % 8) & 1;
-}
-
 static int dot(int x, int y) {
     return desk.panel[CARD_PANEL_BYTES_A_ROW * y + x / 8] >> (7 - x % 8) & 1;
 }
@@ -465,7 +477,8 @@ static void the_panel(void) {
     expect(fill_panel() == CARD_DONE, "the panel is filled");
     for (int y = 0; y < CARD_PANEL_ROWS; y++) {
         for (int x = 0; x < CARD_PANEL_COLUMNS; x++) {
-            expect(dot(x, y) == spot(x / 2, y / 2), "a dot is not its spot");
+            expect(dot(x, y) == spot(desk.picture, x / 2, y / 2),
+                   "a dot is not its spot");
         }
     }
     for (int y = 0; y < 11; y++) {
@@ -477,6 +490,27 @@ static void the_panel(void) {
     }
 }
 
+/* ---- The page of variables ---------------------------------------------- */
+
+static void the_page(void) {
+    static const uint8_t variables[] = {0x01, 0x23, 0x45, 0x67, 0x89, 0xAB,
+                                        0xCD, 0xEF, 0xFE, 0xDC, 0xBA, 0x98,
+                                        0x76, 0x54, 0x32, 0x10};
+
+    prepare(0xD005);
+    expect(step(0, 0) == CARD_DONE, "a drawing is accepted");
+    memcpy(desk.image + CARD_AT_V, variables, sizeof variables);
+    set_number(CARD_AT_PC, 0x0ABC);
+    memset(desk.page, 0x5A, sizeof desk.page);
+    memset(desk.memory, 0, sizeof desk.memory);
+    remember();
+    expect(draw_page() == CARD_DONE, "the page is drawn");
+    show_rows(desk.page, 0, CARD_ROWS - 1);
+    memcpy(before.page, desk.page, sizeof desk.page);
+    expect(memcmp(&before, &desk, sizeof desk) == 0,
+           "a page touches nothing but itself");
+}
+
 int main(void) {
     there_and_back();
     run_and_play();
@@ -484,6 +518,7 @@ int main(void) {
     second_edition();
     one_place();
     the_panel();
+    the_page();
     if (surprises > 0) {
         printf("%d surprises\n", surprises);
         return 1;

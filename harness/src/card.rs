@@ -72,3 +72,7 @@ impl Engine for Archive {
 pub fn panel(picture: &[u8], panel: &mut [u8]) -> u32 {
     cross!(card_panel: read u8 picture, write u8 panel)
 }
+
+pub fn page(image: &[u8], page: &mut [u8]) -> u32 {
+    cross!(card_page: read u8 image, write u8 page)
+}

@@ -9,7 +9,7 @@ use crate::engine::{Engine, Second};
 use crate::guard::Guarded;
 use crate::plain_list::PlainList;
 use crate::tally::Tally;
-use crate::{card, dots};
+use crate::{card, dots, page};
 
 /// Where and how the engine first differed.
 #[derive(Debug)]
@@ -62,19 +62,35 @@ pub fn make(engine: &dyn Engine, call: &Call, lists: Lists, lent: Lent, answer: 
     }
 }
 
-/// The card's panel beside the doubling dot by dot, on copies of the same
-/// buffers. Answers the refusal and the panel that both left.
-pub fn check_panel(picture: &[u8], panel: &[u8]) -> Result<(u32, Vec<u8>), String> {
-    let lent = Guarded::new(picture);
-    let mut got = Guarded::new(panel);
-    let mut expected = panel.to_vec();
-    let refusal = card::panel(lent.contents(), got.lent());
-    let right = dots::panel(picture, &mut expected);
+/// A call that reads one buffer and fills another. It answers the refusal.
+type Filling = fn(&[u8], &mut [u8]) -> u32;
+
+/// What came of a filling: the refusal, and what stands in the filled buffer.
+pub type Filled = Result<(u32, Vec<u8>), String>;
+
+/// The card's panel beside the doubling dot by dot.
+pub fn check_panel(picture: &[u8], panel: &[u8]) -> Filled {
+    check_filling(picture, panel, card::panel, dots::panel)
+}
+
+/// The stepper's page of variables beside the page spot by spot.
+pub fn check_page(image: &[u8], before: &[u8]) -> Filled {
+    check_filling(image, before, card::page, page::page)
+}
+
+/// Makes a call of the card and the same of our own, on copies of the same
+/// buffers, which must come out the same.
+fn check_filling(read: &[u8], before: &[u8], card: Filling, own: Filling) -> Filled {
+    let lent = Guarded::new(read);
+    let mut got = Guarded::new(before);
+    let mut expected = before.to_vec();
+    let refusal = card(lent.contents(), got.lent());
+    let right = own(read, &mut expected);
     if refusal != right {
         return Err(format!("refusal: expected {right}, got {refusal}"));
     }
-    compare_list("picture", picture, &lent)?;
-    compare_buffer("panel", &expected, &got)?;
+    compare_list("buffer that is only read", read, &lent)?;
+    compare_buffer("filled buffer", &expected, &got)?;
     Ok((refusal, expected))
 }
 

@@ -4,7 +4,7 @@
 use crate::buffers::{Host, PARTS};
 use crate::card::Archive;
 use crate::case::{hex, Call, Case};
-use crate::check::{check, check_panel, make, UNWRITTEN};
+use crate::check::{check, check_page, check_panel, make, Filled, UNWRITTEN};
 use crate::engine::{Engine, Second, ANSWER};
 use crate::second::{
     Machine, FIRST_EDITION, HISTORY_MOST, IMAGE, LATER, LIST_MOST, MEMORY, PICTURE, PLACE,
@@ -17,12 +17,13 @@ const ENGINES: [&dyn Engine; 2] = [&Archive, &Tuned];
 
 /// The buffers by name: how many bytes there are, one more than any call takes,
 /// and how many of them are lent unless the script says otherwise.
-const BUFFERS: [(&str, usize, usize); 10] = [
+const BUFFERS: [(&str, usize, usize); 11] = [
     ("image", IMAGE + 1, IMAGE),
     ("memory", MEMORY + 1, MEMORY),
     ("picture", PICTURE + 1, PICTURE),
     ("history", HISTORY_MOST + 1, 3 * PLACE),
     ("panel", dots::PANEL + 1, dots::PANEL),
+    ("page", PICTURE + 1, PICTURE),
     // Of an answer only the length counts, in numbers.
     ("answer", ANSWER + 1, ANSWER),
     // Of a list each call says how much it is lent.
@@ -229,7 +230,8 @@ impl Desk {
                 return Ok(None);
             }
             ["show", name, at, count] => return self.show(name, at, count).map(Some),
-            ["panel"] => self.panel()?,
+            ["panel"] => self.fill("picture", "panel", check_panel)?,
+            ["page"] => self.fill("image", "page", check_page)?,
             ["walk", "back", count] => self.walk(number(count, 10)?, |_| Call::Back)?,
             ["walk", count, "keys", keys] => self.walk_on(number(count, 10)?, number(keys, 16)?)?,
             ["do", word, inputs @ ..] => {
@@ -360,10 +362,16 @@ impl Desk {
         Ok(self.told(&made))
     }
 
-    fn panel(&mut self) -> Result<String, String> {
+    /// A call that reads one buffer and fills another.
+    fn fill(
+        &mut self,
+        read: &str,
+        filled: &str,
+        check: fn(&[u8], &[u8]) -> Filled,
+    ) -> Result<String, String> {
         self.calls += 1;
-        let (refusal, panel) = check_panel(self.lent("picture"), self.lent("panel"))?;
-        self.keep("panel", &panel);
+        let (refusal, bytes) = check(self.lent(read), self.lent(filled))?;
+        self.keep(filled, &bytes);
         Ok(told_refusal(refusal))
     }
 

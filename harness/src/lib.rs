@@ -9,6 +9,7 @@ pub mod edges;
 pub mod engine;
 pub mod generate;
 pub mod guard;
+pub mod page;
 pub mod plain_list;
 pub mod random;
 pub mod second;

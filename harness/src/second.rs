@@ -147,7 +147,7 @@ fn test_state(machine: &Machine, history: &[u8]) -> Result<(), Refusal> {
 
 // ---- Loading --------------------------------------------------------------
 
-const DIGITS: [[u8; 5]; 16] = [
+pub const DIGITS: [[u8; 5]; 16] = [
     [0xF0, 0x90, 0x90, 0x90, 0xF0],
     [0x60, 0x20, 0x20, 0x20, 0x70],
     [0xF0, 0x10, 0xF0, 0x80, 0xF0],

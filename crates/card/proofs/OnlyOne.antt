@@ -1,4 +1,4 @@
--- The boundary's promises are tight: two results that one call allows are equal, the answer of a step or a run and the panel included.
+-- The boundary's promises are tight: two results that one call allows are equal, the answer of a step or a run, the page and the panel included.
 use mathlib.Core.Path.{_≡_, sym, ap, _∙_}
 use mathlib.Core.List.{List}
 use Prim.Native.Nat.{ℕ}
@@ -6,7 +6,7 @@ use lib.Dec.{eqb}
 use Rattle.rules.specs.Number.{pick}
 use Rattle.imaged.specs.Imaged.{Card}
 use Rattle.imaged.proofs.OnlyOne.{Left, only-one}
-use Rattle.card.specs.Card.{answered, LeavesPanel}
+use Rattle.card.specs.Card.{answered, LeavesPage, LeavesPanel}
 
 -- a step's first number is read off its refusal number
 pub only-one-step : (c d e : Card) (dark : ℕ) (before x y : List ℕ)
@@ -21,6 +21,9 @@ pub only-one-run : (c d e : Card) (accepted dark : ℕ) (before x y : List ℕ)
     → Left c d → x ≡ answered accepted dark before → Left c e → y ≡ answered accepted dark before
     → (d ≡ e) × (x ≡ y)
 only-one-run c d e accepted dark before x y g p h q = (only-one c d e g h, p ∙ sym q)
+
+pub only-one-page : (n k : ℕ) (image before x y : List ℕ) → LeavesPage n image before x → LeavesPage k image before y → (n ≡ k) × (x ≡ y)
+only-one-page n k image before x y g h = (g .says ∙ sym (h .says), g .bytes ∙ sym (h .bytes))
 
 pub only-one-panel : (n k : ℕ) (picture before x y : List ℕ) → LeavesPanel n picture before x → LeavesPanel k picture before y
     → (n ≡ k) × (x ≡ y)

@@ -6,13 +6,17 @@ use Prim.Native.Nat.{ℕ}
 use lib.ListN.{length}
 use lib.Dec.{eqb}
 use Rattle.rules.specs.declared.Refusal.the-variants.{BufferLength}
-use Rattle.rules.specs.Number.{pick}
+use Rattle.rules.specs.Number.{pick, unless}
 use Rattle.rules.specs.Refusal.{numberOf}
 use Rattle.rules.specs.Call.{step, tick, back}
 use Rattle.rules.specs.Run.{run}
 use Rattle.rules.specs.Dark.{stepDark, runDark}
+use Rattle.rules.specs.State.{sound}
+use Rattle.stepper.specs.Page.{PageOf}
+use Rattle.stepper.specs.Dock.{drawRefusal, pageAfter}
+use Rattle.stepper.specs.Dock.{fits as pageFits}
 use Rattle.panel.specs.Panel.{fits, panelRefusal, panelAfter, PanelOf}
-use Rattle.image.specs.Image.{imageSize}
+use Rattle.image.specs.Image.{imageSize, machineOf}
 use Rattle.imaged.specs.Imaged.{Card, worldOf, shown, loadBy, whole, ranOn, playedOn}
 
 abbrev pub sized : List ℕ → Bool
@@ -75,7 +79,13 @@ unfoldable pub runWentDark : List ℕ → List ℕ → List ℕ → List ℕ →
 runWentDark ticks keys randoms image memory picture history =
     pick (sized image) (runDark ticks keys randoms (worldOf image memory picture history)) 0
 
--- ---- the promise of the panel
+-- ---- the promises of the page and of the panel
+
+-- what the page leaves, for which the image is only read: its number, every byte, and of a page that is drawn every spot
+pub record LeavesPage (n : ℕ) (image before after : List ℕ) : Type 0 where
+  pub says : n ≡ unless (sized image) (numberOf BufferLength) (drawRefusal (machineOf image) before)
+  pub bytes : after ≡ pick (sized image) (pageAfter (machineOf image) before) before
+  pub spots : (sized image && pageFits before && sound (machineOf image)) ≡ true → PageOf (machineOf image) after
 
 -- what the panel leaves, which is lent no image: its number, every byte, and of a panel that is filled every dot
 pub record LeavesPanel (n : ℕ) (picture before after : List ℕ) : Type 0 where

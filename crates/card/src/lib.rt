@@ -8,7 +8,7 @@ ghost use lib.Dec.{eqb};
 ghost use Rattle.rules.specs.Number.{pick};
 ghost use Rattle.rules.specs.Past.{PlayTells};
 ghost use Rattle.imaged.specs.Imaged.{worldOf, Leaves};
-ghost use Rattle.card.specs.Card.{sized, answers, answered, LeavesPanel};
+ghost use Rattle.card.specs.Card.{sized, answers, answered, LeavesPage, LeavesPanel};
 ghost use Rattle.card.specs.Card as spec;
 
 // How many numbers an answer has.
@@ -161,6 +161,19 @@ pub extern "C" fn card_play(
         return 9;
     }
     imaged_lists::play(image, memory, picture, history, moves, keys, randoms)
+}
+
+#[no_mangle]
+pub extern "C" fn card_page(image: &[u8], page: &mut [u8]) -> u32
+    ensures { λ r. ⌜ LeavesPage r (now (image .entry)) (now (page .entry)) (now (page .exit)) ⌝ }
+{
+    if image.len() != image::IMAGE {
+        return 9;
+    }
+    let standing = image::read(image);
+    let machine = standing.machine;
+    let outcome = stepper::draw(machine, page);
+    imaged::number(outcome)
 }
 
 #[no_mangle]

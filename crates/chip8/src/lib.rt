@@ -19,6 +19,11 @@ pub use running::run;
 // Makes a list of moves (0 a step, 1 a tick, 2 a step back), each on what the last one gave, and answers what came of the last.
 pub use playing::play;
 
+// For what is built above the library: the tests 9 and 10, whether a state is sound, and a line of a digit's published shape.
+pub use digits::shape_line;
+pub use judge::is_sound;
+pub use judge::tested;
+
 // What they answer beside the buffers that they are lent.
 pub use parts::Answer;
 pub use parts::Ran;

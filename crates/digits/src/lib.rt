@@ -1,9 +1,11 @@
 // The sixteen digits, laid out from overlapping bytes: the chip's constant store is nearly full, and digits have bytes in common.
 ghost use mathlib.Core.Path.{_≡_};
 ghost use mathlib.Core.Bool.{true};
-ghost use Prim.Native.Nat.{_/_, _≤_, _<_};
+ghost use Prim.Native.Nat.{_+_, _*_, _/_, _%_, _≤_, _<_};
+ghost use lib.Dec.{ltb};
 ghost use lib.ListN.{length, getD};
 ghost use Rattle.digits.specs.Table.{areDigits};
+ghost use Rattle.rules.specs.Number.{pick};
 ghost use Rattle.rules.specs.Memory.{over};
 ghost use Rattle.rules.specs.Load.{digits};
 
@@ -88,6 +90,18 @@ fn digit_byte(at: usize, table: &[u8], starts: &[u8]) -> u8
 {
     let start = wide(starts[at / EACH]);
     table[start + at % EACH]
+}
+
+// A line of a digit's published shape, from the top one, 0, on; below the last it is dark. For whoever shows a digit and is lent no
+// memory to read it from.
+pub fn shape_line(digit: u8, line: u8) -> u8
+    ensures { λ r. ⌜ r ≡ pick (ltb line 5) (getD digits (5 * (digit % 16) + line) 0) 0 ⌝ }
+{
+    let at = EACH * ((digit % 16) as usize) + line as usize;
+    if (line as usize) < EACH {
+        return digit_byte(at, &TABLE, &STARTS);
+    }
+    0
 }
 
 // The digits to the beginning of memory, byte by byte. A loop over the sixteen digits is short enough for the compiler to unroll it

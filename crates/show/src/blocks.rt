@@ -1,13 +1,15 @@
-// Spots as block characters: upper half, lower half, both or none, two rows of spots to a line.
+// The dots of the glass as block characters. A spot fills two by two dots, and a character shows a spot and the spot below it.
 ghost use Prim.Native.Nat.{_+_, _≤_, _<_};
 ghost use lib.ListN.{length};
 ghost use Rattle.io.specs.Counts.{Counts};
 use chip8::Ran;
 
-// A line of 64 characters of up to three bytes, and its end.
-const LINE: usize = 193;
+// A row of 64 characters of up to three bytes; and a line: a row, and beside it two spaces and another, and its end.
+const ROW: usize = 192;
 
-// The bit of column x in its byte.
+const LINE: usize = 2 * ROW + 3;
+
+// The bit of dot column x in its byte.
 fn bit_of(x: usize) -> u8 {
     match x % 8 {
         0 => 128,
@@ -21,11 +23,11 @@ fn bit_of(x: usize) -> u8 {
     }
 }
 
-// Whether the spot in column x of row y is lit.
-fn is_lit(picture: &[u8; 256], x: usize, y: usize) -> bool
+// Whether the spot in column x of row y is lit, by its upper left dot: a row of dots has sixteen bytes.
+fn is_lit(glass: &[u8; 1024], x: usize, y: usize) -> bool
     requires { ⌜ (x < 64) × (y < 32) ⌝ }
 {
-    picture[8 * y + x / 8] & bit_of(x) != 0
+    glass[32 * y + x / 4] & bit_of(2 * x) != 0
 }
 
 // A character of UTF-8 for a spot and the spot below it.
@@ -45,31 +47,51 @@ fn put_block(out: &mut [u8], at: usize, upper: bool, lower: bool) -> usize
     text::put(out, at, b" ")
 }
 
-// The rows 2 y and 2 y + 1.
-fn put_line(out: &mut [u8; LINE], picture: &[u8; 256], y: usize) -> usize
-    requires { ⌜ y < 16 ⌝ }
-    ensures { λ r. ⌜ Counts r (now (out .exit)) ⌝ }
+// The spots of rows 2 y and 2 y + 1.
+fn put_row(out: &mut [u8; LINE], start: usize, glass: &[u8; 1024], y: usize) -> usize
+    requires { ⌜ (y < 16) × (start + 192 ≤ 387) ⌝ }
+    ensures { λ r. ⌜ r ≤ start + 192 ⌝ }
 {
-    let mut at = 0;
+    let mut at = start;
     let mut x = 0;
     while x < 64 {
         at = put_block(
             out,
             at,
-            is_lit(picture, x, 2 * y),
-            is_lit(picture, x, 2 * y + 1),
+            is_lit(glass, x, 2 * y),
+            is_lit(glass, x, 2 * y + 1),
         );
         x += 1;
     }
-    text::put(out, at, b"\n")
+    at
 }
 
-// The picture, from its top row on.
-pub fn write(picture: &[u8; 256]) {
+// A line of the game's picture, with the page of variables beside it or not.
+fn put_line(
+    out: &mut [u8; LINE],
+    game: &[u8; 1024],
+    variables: &[u8; 1024],
+    beside: bool,
+    y: usize,
+) -> usize
+    requires { ⌜ y < 16 ⌝ }
+    ensures { λ r. ⌜ Counts r (now (out .exit)) ⌝ }
+{
+    let middle = put_row(out, 0, game, y);
+    if !beside {
+        return text::put(out, middle, b"\n");
+    }
+    let right = text::put(out, middle, b"  ");
+    let end = put_row(out, right, variables, y);
+    text::put(out, end, b"\n")
+}
+
+// Sixteen lines, from the top rows on.
+pub fn write(game: &[u8; 1024], variables: &[u8; 1024], beside: bool) {
     let mut y = 0;
     while y < 16 {
         let mut line = [0u8; LINE];
-        let end = put_line(&mut line, picture, y);
+        let end = put_line(&mut line, game, variables, beside, y);
         io::write_all(1, &line[..end]);
         y += 1;
     }

@@ -1,11 +1,13 @@
-// Reads a program from standard input, runs it for 64 steps with no ticks, no keys and random byte 00, as the trace does, and shows
-// its picture in block characters, two rows of spots to a line. It is loaded for the second edition, which runs what the first runs and four
-// operations more. The last line says why it stopped, and where.
+// Reads a program from standard input, runs it for 64 steps with no ticks, no keys and random byte 00, as the trace does, and shows what
+// the card's glass then shows, in block characters: the game's own picture, and beside it, where an argument is handed in, the page of
+// its variables. It is loaded for the second edition, which runs what the first runs and four operations more. The last line says why it
+// stopped, and where.
 mod blocks;
 
 use parts::Ran;
 use rules::Edition;
 use rules::Machine;
+use stepper::Switch;
 
 // A program loaded and run. A refused load is a run of no step.
 fn run(program: &[u8], picture: &mut [u8]) -> Ran {
@@ -36,11 +38,23 @@ fn run(program: &[u8], picture: &mut [u8]) -> Ran {
     )
 }
 
+// The dots of the glass, of whichever the switch names.
+fn glass_of<'a>(switch: Switch, picture: &'a [u8], page: &'a [u8]) -> [u8; 1024] {
+    let mut glass = [0u8; 1024];
+    panel::panel(stepper::show(switch, picture, page), &mut glass);
+    glass
+}
+
 fn main() {
     let mut input = [0u8; Machine::TOO_LONG];
     let size = io::read_full(0, &mut input);
     let mut picture = [0u8; Machine::PICTURE];
     let ran = run(&input[..size], &mut picture);
-    blocks::write(&picture);
+    let mut page = [0u8; Machine::PICTURE];
+    let machine = ran.machine;
+    stepper::draw(machine, &mut page);
+    let game = glass_of(Switch::Game, &picture, &page);
+    let variables = glass_of(Switch::Variables, &picture, &page);
+    blocks::write(&game, &variables, 1 < os::arg_count());
     blocks::write_stop(ran);
 }

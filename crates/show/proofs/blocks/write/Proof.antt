@@ -5,10 +5,10 @@ use Rattle.show.proofs.blocks.write.Statement.{statement}
 use Rattle.show.proofs.blocks.write.Tie as tie
 
 abbrev Inv-loop : tie.InvT-loop
-Inv-loop picture y₀ y = y ≤ 16
+Inv-loop game variables beside y₀ y = y ≤ 16
 
 abbrev μ-loop : tie.MeasureT-loop
-μ-loop picture y₀ y = 16 - y
+μ-loop game variables beside y₀ y = 16 - y
 
 pub write-spec : {M : Type 1} → statement M
 write-spec =
