@@ -1,7 +1,7 @@
 // The library: the calls that a dock makes. Each may be handed anything, ends, and gives what the rules define; a refused call hands
 // everything back as it came. Each has a crate of its own, where its statement stands above its code.
 
-// Loads a program: digits, program and zeros to memory, zeros to the picture and the history.
+// Loads a program for an edition: digits, program and zeros to memory, zeros to the picture and the history.
 pub use loading::load;
 
 // Executes one instruction: it is judged, then its record is kept, then it acts.
