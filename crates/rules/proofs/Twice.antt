@@ -20,7 +20,7 @@ use Rattle.rules.specs.Step.{Board, column, row, after}
 use Rattle.rules.specs.World.{World, Answer, boardOf, buffersFit, soundly}
 use Rattle.rules.specs.Call.{step, stepRefusal, stepped}
 use Rattle.rules.specs.Typed.{TypedBoard}
-use Rattle.rules.specs.Twice.{Meets, MeetsLit, MeetsDark, PutBack, Draws, patternAt, Flags}
+use Rattle.rules.specs.Twice.{Meets, MeetsLit, MeetsDark, Touches, PutBack, Draws, patternAt, At, Flags}
 use Rattle.rules.specs.Twice.{DrawnTwice, EitherOrder, DrawsTwice, DrawsAgain}
 use Rattle.rules.proofs.Choices.{by-test, passed}
 use Rattle.rules.proofs.Good.{Bytes}
@@ -90,7 +90,7 @@ module _ (pattern : List ℕ) (column row : ℕ) (P : List ℕ) where
         (record { x = m .x; y = m .y; across = m .across; down = m .down; above = same (m .x) (m .y) .1 (m .one, m .is) }),
   )
 
-  meets-lit : (0 < darkened pattern column row P) ↔ MeetsLit pattern column row P
+  meets-lit : Touches pattern column row P ↔ MeetsLit pattern column row P
   unfolding darkened
   meets-lit =
       meets-some (λ x y. min (spot P x y) (bits x y)) 1
@@ -143,8 +143,7 @@ module _ {x y n : ℕ} (w : World) (keys random : ℕ) (d : Draws x y n w) where
   unfolding after
   drew-picture = ap (λ (b : Board). b .picture) drew
 
-  drew-flag : length (m .v) ≡ 16 → {That : Type 0} → (0 < darkened (patternAt n w) (column m x) (row m y) (w .picture)) ↔ That
-      → Flags one That
+  drew-flag : length (m .v) ≡ 16 → {That : Type 0} → At Touches x y n w ↔ That → Flags one That
   unfolding after
   drew-flag sixteen iff =
       let dark = darkened (patternAt n w) (column m x) (row m y) (w .picture) in
@@ -177,7 +176,8 @@ draws-twice x y n hx hy w u keys random keys′ random′ typed typed′ d left 
     let vy : reg (u .machine) y ≡ reg (w .machine) y = left .vy ∙ drew-reg w keys random d y (λ e. omega arith) in
     let picture = left .picture ∙ drew-picture w keys random d in
     let put = put-back (patternAt n w) (column (w .machine) x) (row (w .machine) y) (w .picture) (draws-ready w typed d .good .picture) in
-    let back : (step keys′ random′ u) .world .picture ≡ w .picture = drew-picture u keys′ random′ d′ ∙ rw (pattern, vx, vy, picture) (put .back) in
+    let back : (step keys′ random′ u) .world .picture ≡ w .picture =
+    drew-picture u keys′ random′ d′ ∙ rw (pattern, vx, vy, picture) (put .back) in
     record {
       picture = back;
       lit = ap litSpots back;

@@ -30,7 +30,7 @@ MeetsLit = Meets 1
 abbrev pub MeetsDark : List ℕ → ℕ → ℕ → List ℕ → Type 0
 MeetsDark = Meets 0
 
--- a drawing reports a touch
+-- a drawing reports a touch where lit spots go dark
 abbrev pub Touches : List ℕ → ℕ → ℕ → List ℕ → Type 0
 Touches pattern column row picture = 0 < darkened pattern column row picture
 
@@ -57,9 +57,9 @@ pub record Draws (x y n : ℕ) (w : World) : Type 0 where
 abbrev pub patternAt : ℕ → World → List ℕ
 patternAt n w = part (w .memory) (w .machine .i) n
 
--- what the DXYN at w meets
-abbrev pub MeetsAt : ℕ → ℕ → ℕ → ℕ → World → Type 0
-MeetsAt so x y n w = Meets so (patternAt n w) (column (w .machine) x) (row (w .machine) y) (w .picture)
+-- what can be said of a drawing, said of the DXYN at w
+abbrev pub At : (List ℕ → ℕ → ℕ → List ℕ → Type 0) → ℕ → ℕ → ℕ → World → Type 0
+At Says x y n w = Says (patternAt n w) (column (w .machine) x) (row (w .machine) y) (w .picture)
 
 -- whatever was done between the world `one` and the world u, it left what a DXYN reads: the pattern, VX, VY and the picture
 pub record Undisturbed (x y n : ℕ) (one u : World) : Type 0 where
@@ -78,8 +78,8 @@ pub record Flags (w : World) (That : Type 0) : Type 0 where
 pub record Erases (x y n : ℕ) (w one two : World) : Type 0 where
   pub picture : two .picture ≡ w .picture
   pub lit : litSpots (two .picture) ≡ litSpots (w .picture)
-  pub first : Flags one (MeetsAt 1 x y n w)
-  pub second : Flags two (MeetsAt 0 x y n w)
+  pub first : Flags one (At MeetsLit x y n w)
+  pub second : Flags two (At MeetsDark x y n w)
 
 -- ---- THE CLAIMS, proved in proofs/Twice.antt
 
