@@ -3,43 +3,21 @@ use mathlib.Core.Path.{_≡_, refl, sym, ap, ap₂, _∙_}
 use mathlib.Core.Bool.{true, false, false≢true}
 use mathlib.Core.List.{List}
 use Prim.Native.Nat.{ℕ, zero, suc, _+_, _-_, _*_, _/_, _%_, _≤_, _<_}
-use native.Mathlib.Nat.{mod-lt, not-suc-le-zero, zero-lt-suc, add-zero, zero-add}
+use native.Mathlib.Nat.{not-suc-le-zero, add-zero, zero-add}
 use native.Mathlib.Decide.{ℕ-discrete, decLt}
 use native.Mathlib.Omega.{arith}
 use lib.ListN.{getD, set, length, length-set}
 use lib.Seq.{ext-getD, getD-set-same, getD-set-other}
-use lib.Pow.{shr-shr}
 use Rattle.rules.specs.declared.Outcome.{Outcome}
 use Rattle.rules.specs.Number.{bit}
 use Rattle.rules.specs.Refusal.{number as refusal}
 use Rattle.rules.specs.Picture.{spot, byteOf}
 use Rattle.rules.proofs.OnlyOne.{one-outcome}
-use Rattle.rules.proofs.Drawn.{number, same, half, odd, byte-is}
+use Rattle.rules.proofs.Drawn.{number, same, bit-lit, digit, byte-number, byte-is}
 use Rattle.panel.specs.Panel.{PanelOf, dotBytes, panelOf, twice, fits, Shows}
 use Rattle.panel.specs.Bytes.{pair, source, above, Upper, Repeated, Doubled}
 
 -- ---- a byte and its bits
-
-lit : (b n : ℕ) → bit b n < 2
-lit b n = mod-lt _ (zero-lt-suc 1)
-
-byte-number : (f : ℕ → ℕ → ℕ) (x y : ℕ) → byteOf f x y ≡ number 2 8 (λ i. f (x + i) y)
-unfolding number
-byte-number f x y = rw add-zero (omega arith)
-
--- bit by bit, a number to base 2 is its digits
-digit : (f : ℕ → ℕ) → ((i : ℕ) → f i < 2) → (n i : ℕ) → i < n → bit (n - 1 - i) (number 2 n f) ≡ f i
-unfolding number
-digit f lits zero i h = absurd (not-suc-le-zero h)
-digit f lits (suc n) i h = last (ℕ-discrete i n) (digit f lits n i)
-  where
-    last : Dec (i ≡ n) → (i < n → bit (n - 1 - i) (number 2 n f) ≡ f i) → bit (suc n - 1 - i) (number 2 n f * 2 + f n) ≡ f i
-    last (yes e) before =
-        let low : suc n - 1 - i ≡ 0 = omega arith in
-        rw (low, e) (omega (arith, lits n))
-    last (no ne) before =
-        let up : suc n - 1 - i ≡ 1 + (n - 1 - i) = omega arith in
-        rw (up, ← shr-shr (number 2 n f * 2 + f n) 1 (n - 1 - i), half (number 2 n f) (f n) (lits n)) (before (omega arith))
 
 -- two bytes with equal bits are equal
 same-byte : (a b : ℕ) → a < 256 → b < 256 → ((i : ℕ) → i < 8 → bit (7 - i) a ≡ bit (7 - i) b) → a ≡ b
@@ -79,7 +57,7 @@ module _ (b : ℕ) where
   doubled = two-quads (bit 7 b) (bit 6 b) (bit 5 b) (bit 4 b) (bit 3 b) (bit 2 b) (bit 1 b) (bit 0 b)
 
   halves : ((quad upper-four * 256 + quad lower-four) / 256 % 256 ≡ quad upper-four) × ((quad upper-four * 256 + quad lower-four) % 256 ≡ quad lower-four)
-  halves = apart (quad upper-four) (quad lower-four) (quad-byte upper-four (λ i. lit (7 - i) b)) (quad-byte lower-four (λ i. lit (3 - i) b))
+  halves = apart (quad upper-four) (quad lower-four) (quad-byte upper-four (λ i. bit-lit (7 - i) b)) (quad-byte lower-four (λ i. bit-lit (3 - i) b))
 
   high-half : number 2 8 (λ i. bit (7 - i / 2) b) ≡ twice b / 256 % 256
   high-half = quad-number upper-four ∙ sym (ap (λ (n : ℕ). n / 256 % 256) doubled ∙ halves .0)
@@ -90,7 +68,7 @@ module _ (b : ℕ) where
 pub twice-word : (b : ℕ) → twice b < 65536
 twice-word b =
     rw (doubled b)
-    (omega (arith, quad-byte (upper-four b) (λ i. lit (7 - i) b), quad-byte (lower-four b) (λ i. lit (3 - i) b)))
+    (omega (arith, quad-byte (upper-four b) (λ i. bit-lit (7 - i) b), quad-byte (lower-four b) (λ i. bit-lit (3 - i) b)))
 
 module _ (a b n : ℕ) (h : b < 65536) (e : n ≡ 65536 * a + b) where
   wide-high : n / 65536 ≡ a
@@ -322,7 +300,7 @@ dot-for-dot picture =
           let col : 8 * (j % 16) + x % 8 ≡ x = omega arith in
           let row : j / 16 ≡ y = omega arith in
           ap (bit (7 - x % 8)) (panel-at picture j (omega arith))
-          ∙ digit (λ i. shown picture (8 * (j % 16) + i) (j / 16)) (λ i. lit _ _) 8 (x % 8) (omega arith)
+          ∙ digit (λ i. shown picture (8 * (j % 16) + i) (j / 16)) (λ i. bit-lit _ _) 8 (x % 8) (omega arith)
           ∙ ap₂ (shown picture) col row;
     }
 

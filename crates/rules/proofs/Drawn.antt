@@ -4,6 +4,7 @@ use mathlib.Core.Bool.{and-false}
 use mathlib.Core.List.{List}
 use Prim.Native.Nat.{ℕ, zero, suc, _+_, _-_, _*_, _/_, _%_, _^_, _≤_, _<_}
 use native.Mathlib.Nat.{mod-lt, not-suc-le-zero, zero-lt-suc, pow-suc, add-zero, zero-add, zero-div}
+use native.Mathlib.Decide.{ℕ-discrete}
 use native.Mathlib.Omega.{arith}
 use lib.ListN.{getD, length}
 use lib.Dec.{lit<}
@@ -45,7 +46,24 @@ xor-digits f g lits (suc n) =
     let (lf, lg) = lits n in
     xor-step (number 2 n f * 2 + f n) (number 2 n g * 2 + g n) ∙ simp (half, odd, xor-digits f g lits n)
 
--- a number is made of its bits
+pub bit-lit : (b n : ℕ) → bit b n < 2
+bit-lit b n = mod-lt _ (zero-lt-suc 1)
+
+-- bit by bit, a number to base 2 is its digits
+pub digit : (f : ℕ → ℕ) → ((i : ℕ) → f i < 2) → (n i : ℕ) → i < n → bit (n - 1 - i) (number 2 n f) ≡ f i
+unfolding number
+digit f lits zero i h = absurd (not-suc-le-zero h)
+digit f lits (suc n) i h = last (ℕ-discrete i n) (digit f lits n i)
+  where
+    last : Dec (i ≡ n) → (i < n → bit (n - 1 - i) (number 2 n f) ≡ f i) → bit (suc n - 1 - i) (number 2 n f * 2 + f n) ≡ f i
+    last (yes e) before =
+        let low : suc n - 1 - i ≡ 0 = omega arith in
+        rw (low, e) (omega (arith, lits n))
+    last (no ne) before =
+        let up : suc n - 1 - i ≡ 1 + (n - 1 - i) = omega arith in
+        rw (up, ← shr-shr (number 2 n f * 2 + f n) 1 (n - 1 - i), half (number 2 n f) (f n) (lits n)) (before (omega arith))
+
+-- and it is made of its bits
 bits : (n a : ℕ) → a < 2 ^ n → number 2 n (λ j. bit (n - 1 - j) a) ≡ a
 unfolding number
 bits zero a h = omega arith
@@ -57,6 +75,10 @@ bits (suc n) a h =
 
 -- ---- a byte of eight spots
 
+pub byte-number : (f : ℕ → ℕ → ℕ) (x y : ℕ) → byteOf f x y ≡ number 2 8 (λ j. f (x + j) y)
+unfolding number
+byte-number f x y = rw add-zero (omega arith)
+
 -- the eight spots of byte k, and the byte
 abbrev pub eight : (ℕ → ℕ → ℕ) → ℕ → ℕ → ℕ
 eight f k j = f (8 * (k % 8) + j) (k / 8)
@@ -66,8 +88,8 @@ mask f k = byteOf f (8 * (k % 8)) (k / 8)
 
 module _ (f : ℕ → ℕ → ℕ) (k : ℕ) where
   pub byte : mask f k ≡ number 2 8 (eight f k)
-  unfolding number mask
-  byte = rw add-zero (omega arith)
+  unfolding mask
+  byte = byte-number f (8 * (k % 8)) (k / 8)
 
   -- the byte whose bits are the spots
   pub byte-is : (n : ℕ) → n < 256 → ((j : ℕ) → j < 8 → eight f k j ≡ bit (7 - j) n) → mask f k ≡ n
@@ -86,17 +108,17 @@ module _ (P : List ℕ) (g : ℕ → ℕ → ℕ) (small : (k : ℕ) → getD P 
       same 2 _ _ 8 (λ j l. ap₂ (λ (a b : ℕ). bit (7 - a) (getD P b 0)) (omega arith) (omega arith)) ∙ bits 8 (getD P k 0) (small k)
 
   pub lits : (j : ℕ) → (eight (spot P) k j < 2) × (eight g k j < 2)
-  lits j = (mod-lt _ (zero-lt-suc 1), lit _ _)
+  lits j = (bit-lit _ _, lit _ _)
 
   byte-xor : mask (λ x y. differ (spot P x y) (g x y)) k ≡ bitXor (getD P k 0) (mask g k)
   byte-xor = byte _ k ∙ sym (xor-digits _ _ lits 8) ∙ ap₂ bitXor old-byte (sym (byte g k))
 
 module _ (f : ℕ → ℕ → ℕ) where
-  bytes-length : (n k : ℕ) → length (bytesFrom f n k) ≡ n
+  pub bytes-length : (n k : ℕ) → length (bytesFrom f n k) ≡ n
   bytes-length zero k = refl
   bytes-length (suc n) k = ap suc (bytes-length n (k + 1))
 
-  bytes-at : (n k i : ℕ) → i < n → getD (bytesFrom f n k) i 0 ≡ mask f (k + i)
+  pub bytes-at : (n k i : ℕ) → i < n → getD (bytesFrom f n k) i 0 ≡ mask f (k + i)
   unfolding mask
   bytes-at zero k i h = absurd (not-suc-le-zero h)
   bytes-at (suc n) k zero h = rw add-zero
@@ -106,7 +128,7 @@ module _ (f : ℕ → ℕ → ℕ) where
 
 module _ (pattern : List ℕ) (column row : ℕ) where
   pub shown-lit : (x y : ℕ) → shown pattern column row x y < 2
-  shown-lit x y = choice (λ (s : ℕ). s < 2) (covers pattern column row x y) (mod-lt _ (zero-lt-suc 1)) (zero-lt-suc 1)
+  shown-lit x y = choice (λ (s : ℕ). s < 2) (covers pattern column row x y) (bit-lit _ _) (zero-lt-suc 1)
 
   -- a byte where nothing is shown; so it is above the pattern, and beneath it
   pub mask-none : (k : ℕ) → ((j : ℕ) → j < 8 → eight (shown pattern column row) k j ≡ 0) → mask (shown pattern column row) k ≡ 0

@@ -1,4 +1,4 @@
--- The laws of choices and lists, the laws of the definitions, and the proofs of what Editions and Past claim.
+-- The laws of choices and lists, the laws of the definitions, and the proofs of what Editions, Twice and Past claim.
 pub mod Choices
 pub mod Good
 pub mod Parts
@@ -7,6 +7,7 @@ pub mod Back
 pub mod Undo
 pub mod Restored
 pub mod Drawn
+pub mod Spots
 pub mod Follow
 pub mod Sound
 pub mod Zeros
@@ -14,6 +15,7 @@ pub mod Ready
 pub mod Still
 pub mod Each
 pub mod Editions
+pub mod Twice
 pub mod StepsBack
 pub mod Load
 pub mod OnlyOne

@@ -1,8 +1,8 @@
--- The worked cases of document 01 that are marked P, and those of the requests Q-1 and Q-5: a table, and one statement that each of
+-- The worked cases of document 01 that are marked P, and those of the requests Q-1, Q-5 and Q-9: a table, and one statement that each of
 -- them holds.
 use mathlib.Core.Bool.{Bool, true, false, _&&_}
 use mathlib.Core.List.{List, [], _∷_, _++_}
-use Prim.Native.Nat.{ℕ}
+use Prim.Native.Nat.{ℕ, _-_}
 use lib.ListN.{length, replicate}
 use lib.Dec.{T, eqb}
 use Rattle.rules.specs.declared.Edition.{Edition}
@@ -13,7 +13,7 @@ use Rattle.rules.specs.State.{memorySize, pictureSize, startAddress, fre
 use Rattle.rules.specs.Instruction.{decode}
 use Rattle.rules.specs.Picture.{drawn, darkened}
 use Rattle.rules.specs.Memory.{part, over}
-use Rattle.rules.specs.Record.{placeSize}
+use Rattle.rules.specs.Record.{placeSize, recordWith}
 use Rattle.rules.specs.Step.{Board, refusalOf, changeOf, after}
 use Rattle.rules.specs.World.{World, world, boardOf}
 use Rattle.rules.specs.Load.{freshTrail}
@@ -28,13 +28,19 @@ data Fact : Type 0 where
   shows : List ℕ → Fact
   second : Fact
 
--- a step: the instruction, the refusal or 0, what holds before it, and what holds after it
+-- a step: the instruction, the refusal or 0, what holds before it, and what holds after it; or two accepted steps of an instruction that
+-- stands there twice: what holds before them, between them, and after them
 data Case : Type 0 where
   case : ℕ → ℕ → List Fact → List Fact → Case
+  twice : ℕ → List Fact → List Fact → List Fact → Case
 
--- all dark but the last spot
-abbrev lastSpot : List ℕ
-lastSpot = replicate 255 0x00 ++ (0x01 ∷ [])
+-- a picture that begins with those bytes and is dark behind them
+abbrev begins : List ℕ → List ℕ
+begins l = l ++ replicate (pictureSize - length l) 0x00
+
+-- a picture that is dark up to its last byte
+abbrev darkTo : ℕ → List ℕ
+darkTo b = replicate 255 0x00 ++ (b ∷ [])
 
 table : List Case
 table =
@@ -54,7 +60,7 @@ table =
     ∷ case 0xF155 0 (i 0x0FFE ∷ []) (i 0x1000 ∷ [])
     ∷ case 0xF155 6 (i 0x0FFF ∷ []) []
     ∷ case 0xD012 0 (v 0x0 0x3F ∷ v 0x1 0x1F ∷ v 0xF 0x07 ∷ i 0x0300 ∷ bytes 0x0300 (0xFF ∷ 0xFF ∷ []) ∷ [])
-    (shows lastSpot ∷ v 0xF 0x00 ∷ [])
+    (shows (darkTo 0x01) ∷ v 0xF 0x00 ∷ [])
     -- the second edition's four: with a flag before them, with X = F, with X = Y
     ∷ case 0x8013 0 (second ∷ v 0x0 0xF0 ∷ v 0x1 0x3C ∷ v 0xF 0x07 ∷ []) (v 0x0 0xCC ∷ v 0x1 0x3C ∷ v 0xF 0x00 ∷ second ∷ [])
     ∷ case 0x8F13 0 (second ∷ v 0xF 0xF0 ∷ v 0x1 0x3C ∷ []) (v 0xF 0x00 ∷ [])
@@ -81,16 +87,25 @@ table =
     ∷ case 0x8016 2 (v 0x1 0x01 ∷ []) (v 0x1 0x01 ∷ [])
     ∷ case 0x8017 2 (v 0x1 0x06 ∷ []) (v 0x1 0x06 ∷ [])
     ∷ case 0x801E 2 (v 0x1 0x80 ∷ []) (v 0x1 0x80 ∷ [])
+    -- DXYN twice at both edges, where one spot is dark and one is lit
+    ∷ twice 0xD012 (shows (darkTo 0x01) ∷ v 0x0 0x3E ∷ v 0x1 0x1F ∷ i 0x0300 ∷ bytes 0x0300 (0xFF ∷ 0xFF ∷ []) ∷ [])
+    (shows (darkTo 0x02) ∷ v 0xF 0x01 ∷ []) (shows (darkTo 0x01) ∷ v 0xF 0x01 ∷ [])
+    -- with X = F, and with Y = F, the first one changes VF, the second one draws elsewhere, and the picture does not come back
+    ∷ twice 0xDF01 (v 0xF 0x08 ∷ i 0x0300 ∷ bytes 0x0300 (0x80 ∷ []) ∷ [])
+    (shows (begins (0x00 ∷ 0x80 ∷ [])) ∷ v 0xF 0x00 ∷ []) (shows (begins (0x80 ∷ 0x80 ∷ [])) ∷ v 0xF 0x00 ∷ [])
+    ∷ twice 0xD0F1 (v 0xF 0x01 ∷ i 0x0300 ∷ bytes 0x0300 (0x80 ∷ []) ∷ [])
+    (shows (begins (replicate 8 0x00 ++ (0x80 ∷ []))) ∷ v 0xF 0x00 ∷ [])
+    (shows (begins (0x80 ∷ replicate 7 0x00 ++ (0x80 ∷ []))) ∷ v 0xF 0x00 ∷ [])
     ∷ []
 
 -- ---- how a row is read
 
--- the board of a load in the first edition, with nothing in memory but the instruction
-abbrev bare : ℕ → Board
-bare op =
+-- the board of a load in the first edition, with nothing in memory but the program
+abbrev bare : List ℕ → Board
+bare program =
     record {
       machine = fresh First;
-      memory = over (replicate memorySize 0) startAddress (word op) 2;
+      memory = over (replicate memorySize 0) startAddress program (length program);
       picture = replicate pictureSize 0;
     }
 
@@ -141,8 +156,12 @@ worldOf b = world (b .machine) freshTrail (b .memory) (b .picture) (replicate pl
 
 abbrev holds : Case → Bool
 holds (case op refusal before then) =
-    let a = step 0 0 (worldOf (allGiven before (bare op))) in
+    let a = step 0 0 (worldOf (allGiven before (bare (word op)))) in
     eqb (a .refusal) refusal && allTrue then (boardOf (a .world))
+holds (twice op before between then) =
+    let a = step 0 0 (worldOf (allGiven before (bare (word op ++ word op)))) in
+    let b = step 0 0 (a .world) in
+    eqb (a .refusal) 0 && allTrue between (boardOf (a .world)) && eqb (b .refusal) 0 && allTrue then (boardOf (b .world))
 
 abbrev every : List Case → Bool
 every [] = true
@@ -151,5 +170,5 @@ every (c ∷ cs) = holds c && every cs
 -- ---- THE CASES HOLD
 
 cases : T (every table)
-unfolding table decode drawn darkened refusalOf changeOf after step stepRefusal stepped
+unfolding table decode drawn darkened refusalOf changeOf after recordWith step stepRefusal stepped
 cases = tt
