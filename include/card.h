@@ -1,12 +1,13 @@
 /*
- * card.h - the machine inside a game card: CHIP-8 of 1978 with a step back.
+ * card.h - the machine inside a game card: CHIP-8 of 1978 with a step back and
+ * a step forward again.
  *
- * Link with the static library libcard.a. Six functions load a program, make
- * one step or one clock tick, go one action back, run a list of inputs, and
- * play a list of moves. A seventh turns the picture into the bytes of the
- * card's own panel, and an eighth draws a page of the variables, for a dock that
- * shows the game or its insides. A load chooses the edition of the instruction
- * set.
+ * Link with the static library libcard.a. Seven functions load a program, make
+ * one step or one clock tick, go one action back or forward again, run a list
+ * of inputs, and play a list of moves. An eighth turns the picture into the
+ * bytes of the card's own panel, and a ninth draws a page of the variables, for
+ * a dock that shows the game or its insides. A load chooses the edition of the
+ * instruction set.
  *
  * THE BUFFERS
  *
@@ -17,9 +18,10 @@
  *   memory   4,096 bytes   the program and its data
  *   picture  256 bytes     64 by 32 spots, 8 bytes a row, top row first, the
  *                          highest bit leftmost, 1 for a lit spot
- *   history  288 to 65,536 bytes, a place of 288 bytes for each action that can
- *            be taken back; bytes after the last whole place are in none, and
- *            only a load writes them: it clears them with all the others
+ *   history  292 to 65,536 bytes, a place of 292 bytes for each action that can
+ *            be taken back and made again; bytes after the last whole place are
+ *            in none, and only a load writes them: it clears them with all the
+ *            others
  *
  * Beside them, for card_panel alone:
  *
@@ -82,6 +84,26 @@
  *   card_back(image, sizeof image, memory, sizeof memory, picture,
  *             sizeof picture, history, sizeof history);
  *   (image[CARD_AT_V] is 0 again, and PC is 0200)
+ *   card_forward(image, sizeof image, memory, sizeof memory, picture,
+ *                sizeof picture, history, sizeof history);
+ *   (image[CARD_AT_V] is 5 once more)
+ *
+ * THE BUTTON
+ *
+ * card_back and card_forward are the two ends of one button. Each action, a
+ * step or a tick, leaves a record in the history: what stood before it, and for
+ * a step the keys and the random byte that it was given. Two numbers of the
+ * image say how far the button goes:
+ *
+ *   kept   how many actions card_back can take back
+ *   ahead  how many of those taken back card_forward can make again
+ *
+ * A back raises ahead by one, and a forward lowers it by one. Every other step
+ * or tick that is accepted, a run's or a play's too, is a new action: it sets
+ * ahead to 0, and what was ahead is gone. A load begins with both at 0. The two
+ * together are never more than the places of the history. So an author who went
+ * back too far goes forward again and meets the same states, whatever keys are
+ * down meanwhile.
  */
 #ifndef CARD_H
 #define CARD_H
@@ -106,10 +128,10 @@ extern "C" {
 #define CARD_PANEL_ROWS 64
 #define CARD_PANEL_BYTES_A_ROW 16
 #define CARD_PAGE 256
-#define CARD_PLACE 288
-#define CARD_HISTORY_LEAST 288
+#define CARD_PLACE 292
+#define CARD_HISTORY_LEAST 292
 #define CARD_HISTORY_MOST 65536
-#define CARD_PLACES_MOST 227
+#define CARD_PLACES_MOST 224
 #define CARD_START 0x0200
 #define CARD_PROGRAM_LEAST 1
 #define CARD_PROGRAM_MOST 3584
@@ -134,21 +156,23 @@ enum card_refusal {
     CARD_NOTHING_KEPT = 7,     /* a back with kept 0 */
     CARD_PROGRAM_LENGTH = 8,   /* a program of 0 or over 3,584 bytes */
     CARD_LENGTH = 9,           /* a buffer or a list has a wrong length */
-    CARD_UNSOUND = 10,         /* a state that cannot be, next or kept too; in a
-                                  load an edition that there is not */
-    CARD_DAMAGED_RECORD = 11   /* a back onto a damaged record */
+    CARD_UNSOUND = 10,         /* a state that cannot be, next, kept or ahead
+                                  too; in a load an edition that there is not */
+    CARD_DAMAGED_RECORD = 11,  /* a back or a forward onto a damaged record */
+    CARD_NOTHING_AHEAD = 12    /* a forward with ahead 0 */
 };
 
 /*
  * If more than one applies, the number that is given is the first of
- *   load  9, 10, 8
- *   step  9, 10, 1, then 2 or 3, then 4, 5 or 6
- *   tick  9, 10
- *   back  9, 10, 7, 11
- *   run   9, 10, then that of the step that ended it
- *   play  9, 10, then that of the last move
- *   panel 9
- *   page  9, 10
+ *   load     9, 10, 8
+ *   step     9, 10, 1, then 2 or 3, then 4, 5 or 6
+ *   tick     9, 10
+ *   back     9, 10, 7, 11
+ *   forward  9, 10, 12, 11, then those of its step from 1 on
+ *   run      9, 10, then that of the step that ended it
+ *   play     9, 10, then that of the last move
+ *   panel    9
+ *   page     9, 10
  */
 
 /* ---- The image ---------------------------------------------------------- */
@@ -165,7 +189,8 @@ enum card_refusal {
 #define CARD_AT_NEXT 48    /* two bytes: the place of the next record */
 #define CARD_AT_KEPT 50    /* two bytes: how many actions can be taken back */
 #define CARD_AT_EDITION 52 /* one of the two below */
-#define CARD_AT_LATER 53   /* eleven bytes for later use, all 0 */
+#define CARD_AT_LATER 53   /* for later use, 0, and 56 to 63 likewise */
+#define CARD_AT_AHEAD 54   /* two bytes: how many actions can be made again */
 
 #define CARD_NO_KEY 0xFF
 
@@ -236,14 +261,31 @@ uint32_t card_tick(uint8_t *image, size_t image_length,
 
 /*
  * Takes back the last step or tick that was accepted, with every part of the
- * state and every byte of memory and picture. The history is only read. When
- * kept is 0, nothing is left to take back and the call is refused with
- * CARD_NOTHING_KEPT.
+ * state and every byte of memory and picture. The history is only read, and
+ * card_forward can make the action again. When kept is 0, nothing is left to
+ * take back and the call is refused with CARD_NOTHING_KEPT.
  */
 uint32_t card_back(uint8_t *image, size_t image_length,
                    uint8_t *memory, size_t memory_length,
                    uint8_t *picture, size_t picture_length,
                    const uint8_t *history, size_t history_length);
+
+/*
+ * Makes the action again that the last back took back: the step, with the keys
+ * and the random byte that it had then, or the tick. Whatever keys are down now
+ * play no part. When ahead is 0, nothing is there to be made again and the call
+ * is refused with CARD_NOTHING_AHEAD.
+ *
+ * The action is made as a new one is, by the instruction that stands at PC, and
+ * its record is written again. While nobody else writes in the buffers, that
+ * leaves the history as it was, and no other refusal occurs. If somebody does,
+ * the record may say neither step nor tick, which is CARD_DAMAGED_RECORD, and
+ * the step may be refused by a number of its own.
+ */
+uint32_t card_forward(uint8_t *image, size_t image_length,
+                      uint8_t *memory, size_t memory_length,
+                      uint8_t *picture, size_t picture_length,
+                      uint8_t *history, size_t history_length);
 
 /*
  * For each entry makes ticks[i] ticks and then a step with keys[i] and
@@ -266,15 +308,20 @@ uint32_t card_run(uint8_t *image, size_t image_length,
                   uint64_t *answer, size_t answer_length);
 
 /* The moves of a play. */
-enum card_move { CARD_MOVE_STEP = 0, CARD_MOVE_TICK = 1, CARD_MOVE_BACK = 2 };
+enum card_move {
+    CARD_MOVE_STEP = 0,
+    CARD_MOVE_TICK = 1,
+    CARD_MOVE_BACK = 2,
+    CARD_MOVE_FORWARD = 3
+};
 
 /*
  * Makes a list of moves, each on what the last one gave; a step uses keys[i]
- * and randoms[i]. A refused move changes nothing and the play goes on. The
- * last move's number is returned, 0 for an empty list. The three lists are
- * equally long, 0 to 4,096 entries.
+ * and randoms[i], a forward what its record keeps. A refused move changes
+ * nothing and the play goes on. The last move's number is returned, 0 for an
+ * empty list. The three lists are equally long, 0 to 4,096 entries.
  *
- * Lists of unequal or greater length, or a move other than these three
+ * Lists of unequal or greater length, or a move other than these four
  * anywhere, are CARD_LENGTH, and a state that cannot be is CARD_UNSOUND. Both
  * are tested before the first move; a play that is refused there changes
  * nothing.
@@ -312,8 +359,8 @@ uint32_t card_panel(const uint8_t *picture, size_t picture_length,
  * read, and the game's own picture is not touched.
  *
  * An image of other than 64 bytes or a page of other than 256 is CARD_LENGTH, and
- * an image of a state that cannot be is CARD_UNSOUND; next and kept are not
- * looked at. The page is then as it came.
+ * an image of a state that cannot be is CARD_UNSOUND; next, kept and ahead are
+ * not looked at. The page is then as it came.
  */
 uint32_t card_page(const uint8_t *image, size_t image_length,
                    uint8_t *page, size_t page_length);

@@ -110,6 +110,13 @@ static uint32_t back(void) {
                                 desk.history, sizeof desk.history));
 }
 
+static uint32_t forward(void) {
+    return after_call(card_forward(desk.image, sizeof desk.image,
+                                   desk.memory, sizeof desk.memory,
+                                   desk.picture, sizeof desk.picture,
+                                   desk.history, sizeof desk.history));
+}
+
 static uint32_t run(const uint8_t *ticks, const uint16_t *keys,
                     const uint8_t *randoms, size_t entries) {
     return after_call(card_run(desk.image, sizeof desk.image,
@@ -158,12 +165,12 @@ static void put_instruction(unsigned at, unsigned word) {
 
 static void show_state(void) {
     printf("pc %04X i %04X v0 %02X v1 %02X v2 %02X v3 %02X vf %02X depth %u "
-           "delay %02X tone %02X held %02X kept %u\n",
+           "delay %02X tone %02X held %02X kept %u ahead %u\n",
            number(CARD_AT_PC), number(CARD_AT_I), desk.image[0], desk.image[1],
            desk.image[2], desk.image[3], desk.image[15],
            desk.image[CARD_AT_DEPTH], desk.image[CARD_AT_DELAY],
            desk.image[CARD_AT_TONE], desk.image[CARD_AT_HELD],
-           number(CARD_AT_KEPT));
+           number(CARD_AT_KEPT), number(CARD_AT_AHEAD));
 }
 
 static int spot(const uint8_t *picture, int x, int y) {
@@ -189,7 +196,7 @@ static void accepted_step(uint16_t keys) {
     show_state();
 }
 
-/* ---- A program, there and all the way back ------------------------------ */
+/* ---- A program, there, all the way back, and there again ---------------- */
 
 static const uint8_t PROGRAM[] = {
     0x6A, 0x3C, /* 0200 VA = 3C, a column near the right edge */
@@ -210,7 +217,7 @@ static const uint8_t PROGRAM[] = {
 };
 
 static void there_and_back(void) {
-    static struct desk start;
+    static struct desk start, end;
 
     memset(&desk, 0x55, sizeof desk);
     set_guards();
@@ -242,6 +249,7 @@ static void there_and_back(void) {
     accepted_step(1 << 3 | 1 << 9);  /* the lowest key is held */
     accepted_step(1 << 9);           /* it is up again */
     accepted_step(0);
+    memcpy(&end, &desk, sizeof desk);
 
     unsigned backs = 0;
     while (back() == CARD_DONE) {
@@ -250,12 +258,74 @@ static void there_and_back(void) {
     expect(back() == CARD_NOTHING_KEPT, "nothing can be left to take back");
     printf("%u backs:  ", backs);
     show_state();
+    expect(number(CARD_AT_AHEAD) == backs, "all that was taken back is ahead");
+    set_number(CARD_AT_AHEAD, 0);
     expect(memcmp(desk.image, start.image, sizeof desk.image) == 0,
-           "the image is not as it was after the load");
+           "but for ahead the image is not as it was after the load");
+    set_number(CARD_AT_AHEAD, backs);
     expect(memcmp(desk.memory, start.memory, sizeof desk.memory) == 0,
            "the memory is not as it was after the load");
     expect(memcmp(desk.picture, start.picture, sizeof desk.picture) == 0,
            "the picture is not as it was after the load");
+    expect(memcmp(desk.history, end.history, sizeof desk.history) == 0,
+           "a back wrote in the history");
+
+    /* No key is down now. The keys that were down then hold and free key 3. */
+    unsigned forwards = 0;
+    while (forward() == CARD_DONE) {
+        forwards++;
+    }
+    expect(forward() == CARD_NOTHING_AHEAD, "nothing can be left ahead");
+    printf("%u forwards: ", forwards);
+    show_state();
+    expect(memcmp(&desk, &end, sizeof desk) == 0,
+           "the way forward does not lead to where the way back began");
+}
+
+/* ---- The button's two ends ---------------------------------------------- */
+
+static void press(const char *end, uint32_t (*call)(void), uint32_t wanted) {
+    uint32_t refusal = call();
+    expect(refusal == wanted, "another number was expected");
+    printf("%-8s %2u: ", end, (unsigned)refusal);
+    show_state();
+}
+
+static void the_button(void) {
+    static const uint8_t program[] = {
+        0xC0, 0xFF, /* 0200 V0 = the random byte */
+        0x71, 0x01, /* 0202 V1 += 1 */
+        0x71, 0x02, /* 0204 V1 += 2 */
+    };
+
+    load(program, sizeof program, CARD_FIRST_EDITION);
+    desk.image[CARD_AT_DELAY] = 9;
+    step(0, 0xA5);
+    step(0, 0);
+    tick();
+    step(0, 0);
+    show_state();
+    press("back", back, CARD_DONE);
+    press("back", back, CARD_DONE);
+    press("back", back, CARD_DONE);
+    press("forward", forward, CARD_DONE);
+    press("forward", forward, CARD_DONE);
+    expect(desk.image[CARD_AT_DELAY] == 8, "the tick was made again");
+
+    put_instruction(0x0204, 0x6207);
+    accepted_step(0);
+    press("forward", forward, CARD_NOTHING_AHEAD);
+    press("back", back, CARD_DONE);
+    press("forward", forward, CARD_DONE);
+    expect(desk.image[CARD_AT_V + 1] == 1 && desk.image[CARD_AT_V + 2] == 7,
+           "the new step is made again, and not the one that it struck");
+
+    for (int count = 0; count < 4; count++) {
+        back();
+    }
+    expect(desk.image[CARD_AT_V] == 0, "the random byte was taken back");
+    press("forward", forward, CARD_DONE);
+    expect(desk.image[CARD_AT_V] == 0xA5, "the random byte of then counts");
 }
 
 /* ---- A run and a play --------------------------------------------------- */
@@ -268,6 +338,10 @@ static void run_and_play(void) {
     static const uint8_t moves[] = {CARD_MOVE_BACK, CARD_MOVE_STEP,
                                     CARD_MOVE_STEP, CARD_MOVE_TICK,
                                     CARD_MOVE_BACK, CARD_MOVE_BACK};
+    static const uint8_t more_moves[] = {CARD_MOVE_FORWARD, CARD_MOVE_BACK,
+                                         CARD_MOVE_BACK, CARD_MOVE_BACK,
+                                         CARD_MOVE_FORWARD};
+    static const uint8_t no_move[] = {CARD_MOVE_FORWARD, CARD_MOVE_FORWARD + 1};
 
     load(program, sizeof program, CARD_FIRST_EDITION);
     uint32_t refusal = run(zeros, no_keys, zeros, 64);
@@ -286,6 +360,16 @@ static void run_and_play(void) {
     expect(refusal == CARD_DONE, "the last back of the play is accepted");
     expect(number(CARD_AT_PC) == 0x0206, "the play ends before 8014");
     expect(number(CARD_AT_KEPT) == 3, "the play leaves three actions");
+    refusal = play(more_moves, no_keys, zeros, sizeof more_moves);
+    printf("play: %zu moves, the last one gave %u: ", sizeof more_moves,
+           (unsigned)refusal);
+    show_state();
+    expect(refusal == CARD_DONE, "the last forward of the play is accepted");
+    expect(number(CARD_AT_KEPT) == 2 && number(CARD_AT_AHEAD) == 3,
+           "two actions lie behind and three ahead");
+    expect(play(no_move, no_keys, zeros, sizeof no_move) == CARD_LENGTH,
+           "there is no move after the forward");
+    expect(number(CARD_AT_AHEAD) == 3, "a refused play makes no move");
 
     load(PROGRAM, sizeof PROGRAM, CARD_FIRST_EDITION);
     refusal = run(zeros, no_keys, zeros, 7);
@@ -360,6 +444,7 @@ static void refusals(void) {
     prepare(0x6000);
     remember();
     refused(back(), CARD_NOTHING_KEPT, "a back with an empty history");
+    refused(forward(), CARD_NOTHING_AHEAD, "a forward with an empty history");
 
     prepare(0x6000);
     remember();
@@ -381,7 +466,7 @@ static void refusals(void) {
                                  desk.memory, sizeof desk.memory,
                                  desk.picture, sizeof desk.picture,
                                  desk.history, CARD_HISTORY_LEAST - 1)),
-            CARD_LENGTH, "a history of 287 bytes");
+            CARD_LENGTH, "a history of 291 bytes");
 
     refused(after_call(card_panel(desk.picture, sizeof desk.picture - 1,
                                   desk.panel, sizeof desk.panel)),
@@ -404,11 +489,34 @@ static void refusals(void) {
     remember();
     refused(tick(), CARD_UNSOUND, "a byte kept for later is not 0");
 
+    prepare(0x6000);
+    set_number(CARD_AT_KEPT, PLACES);
+    set_number(CARD_AT_AHEAD, 1);
+    remember();
+    refused(forward(), CARD_UNSOUND, "kept and ahead above the places");
+
     prepare(0x6001);
     expect(step(0, 0) == CARD_DONE, "6001 is accepted");
     desk.history[0] ^= 1;
     remember();
     refused(back(), CARD_DAMAGED_RECORD, "a record with a wrong mark");
+
+    prepare(0x6001);
+    expect(step(0, 0) == CARD_DONE, "6001 is accepted");
+    desk.history[CARD_PLACE - 1] = 2;
+    remember();
+    refused(back(), CARD_DAMAGED_RECORD, "a back onto neither step nor tick");
+    desk.history[CARD_PLACE - 1] = 1;
+    expect(back() == CARD_DONE, "the record is whole again");
+    desk.history[CARD_PLACE - 1] = 2;
+    remember();
+    refused(forward(), CARD_DAMAGED_RECORD,
+            "a forward onto neither step nor tick");
+    desk.history[CARD_PLACE - 1] = 1;
+    put_instruction(0x0200, 0x00FD);
+    remember();
+    refused(forward(), CARD_MACHINE_LANGUAGE,
+            "a forward over what became machine language");
 }
 
 /* ---- The second edition ------------------------------------------------- */
@@ -438,6 +546,26 @@ static void second_edition(void) {
 
 /* ---- One place only ----------------------------------------------------- */
 
+static void one_place_back(uint32_t wanted) {
+    uint32_t refusal =
+        after_call(card_back(desk.image, sizeof desk.image,
+                             desk.memory, sizeof desk.memory,
+                             desk.picture, sizeof desk.picture,
+                             desk.history, CARD_PLACE));
+    printf("one place, back: %u\n", (unsigned)refusal);
+    expect(refusal == wanted, "one place takes back one action");
+}
+
+static void one_place_forward(uint32_t wanted) {
+    uint32_t refusal =
+        after_call(card_forward(desk.image, sizeof desk.image,
+                                desk.memory, sizeof desk.memory,
+                                desk.picture, sizeof desk.picture,
+                                desk.history, CARD_PLACE));
+    printf("one place, forward: %u\n", (unsigned)refusal);
+    expect(refusal == wanted, "one place makes one action again");
+}
+
 static void one_place(void) {
     prepare(0x7001);
     put_instruction(0x0202, 0x7001);
@@ -450,16 +578,11 @@ static void one_place(void) {
                                  0, 0, desk.answer, CARD_ANSWER));
         expect(refusal == CARD_DONE, "a step with one place is accepted");
     }
-    for (int count = 0; count < 2; count++) {
-        uint32_t refusal =
-            after_call(card_back(desk.image, sizeof desk.image,
-                                 desk.memory, sizeof desk.memory,
-                                 desk.picture, sizeof desk.picture,
-                                 desk.history, CARD_PLACE));
-        printf("one place, back %d: %u\n", count + 1, (unsigned)refusal);
-        expect(refusal == (count == 0 ? CARD_DONE : CARD_NOTHING_KEPT),
-               "one place takes back one action");
-    }
+    one_place_back(CARD_DONE);
+    one_place_forward(CARD_DONE);
+    one_place_forward(CARD_NOTHING_AHEAD);
+    one_place_back(CARD_DONE);
+    one_place_back(CARD_NOTHING_KEPT);
     expect(desk.image[CARD_AT_V] == 1, "the first step stands");
 }
 
@@ -513,6 +636,7 @@ static void the_page(void) {
 
 int main(void) {
     there_and_back();
+    the_button();
     run_and_play();
     refusals();
     second_edition();

@@ -61,6 +61,9 @@ impl Engine for Archive {
     fn back(&self, lent: Lent) -> u32 {
         cross!(card_back: machine lent)
     }
+    fn forward(&self, lent: Lent) -> u32 {
+        cross!(card_forward: machine lent)
+    }
     fn run(&self, lent: Lent, lists: Lists, answer: &mut [u64]) -> u32 {
         cross!(card_run: machine lent, lists lists, write u64 answer)
     }

@@ -19,6 +19,7 @@ pub enum Call {
     },
     Tick,
     Back,
+    Forward,
     Run {
         ticks: Vec<u8>,
         keys: Vec<u16>,
@@ -106,8 +107,8 @@ impl fmt::Display for Host {
             let m = Machine::from_image(&self.image);
             writeln!(
                 f,
-                "    PC {:04X}, I {:04X}, depth {}, delay {:02X}, tone {:02X}, wait {:?}, next {}, kept {}, edition {}",
-                m.pc, m.i, m.depth, m.delay, m.tone, m.wait, m.next, m.kept, m.edition
+                "    PC {:04X}, I {:04X}, depth {}, delay {:02X}, tone {:02X}, wait {:?}, next {}, kept {}, ahead {}, edition {}",
+                m.pc, m.i, m.depth, m.delay, m.tone, m.wait, m.next, m.kept, m.ahead, m.edition
             )?;
         }
         for (part, name) in PARTS {
@@ -153,6 +154,7 @@ impl fmt::Display for Call {
             ),
             Call::Tick => write!(f, "tick"),
             Call::Back => write!(f, "back"),
+            Call::Forward => write!(f, "forward"),
             Call::Run {
                 ticks,
                 keys,

@@ -56,6 +56,7 @@ pub fn make(engine: &dyn Engine, call: &Call, lists: Lists, lent: Lent, answer: 
         Call::Step { keys, random, .. } => engine.step(lent, *keys, *random, answer),
         Call::Tick => engine.tick(lent),
         Call::Back => engine.back(lent),
+        Call::Forward => engine.forward(lent),
         Call::Run { .. } => engine.run(lent, lists, answer),
         Call::Play { .. } => engine.play(lent, lists),
         Call::Write { .. } => unreachable!("a host's write is no call"),
@@ -163,7 +164,7 @@ impl Sides {
                 self.got.picture.contents(),
             );
             if let Some(part) = list.differs_from(image, memory, picture) {
-                return Err(format!("the {part} is not that of the plain list's last"));
+                return Err(format!("the {part} is not that at the plain list's finger"));
             }
         }
         Ok(())

@@ -34,7 +34,12 @@ const BUFFERS: [(&str, usize, usize); 11] = [
 ];
 
 /// The words for moves, and their bytes.
-const MOVES: [(&str, &str); 3] = [("step", "00"), ("tick", "01"), ("back", "02")];
+const MOVES: [(&str, &str); 4] = [
+    ("step", "00"),
+    ("tick", "01"),
+    ("back", "02"),
+    ("forward", "03"),
+];
 
 // ---- The state, part by part ----------------------------------------------
 
@@ -75,6 +80,7 @@ fn fields() -> Vec<Field> {
         field("held", 23, Form::Byte, Some(0xFF)),
         field("next", 48, Form::Count, None),
         field("kept", 50, Form::Count, None),
+        field("ahead", 54, Form::Count, Some(0)),
         field("edition", 52, Form::Byte, Some(0)),
     ]);
     fields.extend(LATER.map(|at| field(&format!("byte {at}"), at, Form::Byte, Some(0))));
@@ -233,6 +239,7 @@ impl Desk {
             ["panel"] => self.fill("picture", "panel", check_panel)?,
             ["page"] => self.fill("image", "page", check_page)?,
             ["walk", "back", count] => self.walk(number(count, 10)?, |_| Call::Back)?,
+            ["walk", "forward", count] => self.walk(number(count, 10)?, |_| Call::Forward)?,
             ["walk", count, "keys", keys] => self.walk_on(number(count, 10)?, number(keys, 16)?)?,
             ["do", word, inputs @ ..] => {
                 self.put_instruction(number(word, 16)?)?;
@@ -257,6 +264,7 @@ impl Desk {
             ["step", inputs @ ..] => self.step(inputs)?,
             ["tick"] => Call::Tick,
             ["back"] => Call::Back,
+            ["forward"] => Call::Forward,
             ["run", length] => self.read_call(&["run", length, length, length])?,
             ["run", ticks, keys, randoms] => Call::Run {
                 ticks: first(&self.known("ticks").bytes, ticks)?,

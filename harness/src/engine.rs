@@ -10,13 +10,14 @@ pub const ACCEPTED: usize = 0;
 /// Where they write how many lit spots went dark.
 pub const WENT_DARK: usize = 1;
 
-/// The six calls. Each answers the refusal number, 0 for done.
+/// The seven calls. Each answers the refusal number, 0 for done.
 pub trait Engine {
     fn name(&self) -> &'static str;
     fn load(&self, lent: Lent, program: &[u8], edition: u8) -> u32;
     fn step(&self, lent: Lent, keys: u16, random: u8, answer: &mut [u64]) -> u32;
     fn tick(&self, lent: Lent) -> u32;
     fn back(&self, lent: Lent) -> u32;
+    fn forward(&self, lent: Lent) -> u32;
     fn run(&self, lent: Lent, lists: Lists, answer: &mut [u64]) -> u32;
     fn play(&self, lent: Lent, lists: Lists) -> u32;
 }
@@ -81,6 +82,9 @@ impl Engine for Second {
     }
     fn back(&self, lent: Lent) -> u32 {
         with_machine(lent, |machine, lent| number(second::back(machine, lent)))
+    }
+    fn forward(&self, lent: Lent) -> u32 {
+        with_machine(lent, |machine, lent| number(second::forward(machine, lent)))
     }
     fn run(&self, lent: Lent, lists: Lists, answer: &mut [u64]) -> u32 {
         if answer.len() != ANSWER {

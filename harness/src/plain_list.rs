@@ -1,24 +1,31 @@
-//! Demand 3's plain list of states. Each accepted step or tick adds the state
-//! that the rules define, each accepted step back strikes the last. The machine
-//! always equals the last of the list.
+//! Demand 3's plain list of states, with a finger. A back moves the finger down
+//! and strikes nothing, a forward moves it up. Each new step or tick that is
+//! accepted strikes what stands above the finger and adds there the state that
+//! the rules define, with the finger on it. The machine always equals the state
+//! at the finger.
 
 use std::collections::VecDeque;
 
 use crate::buffers::Host;
 use crate::case::Call;
 use crate::engine::ANSWER;
-use crate::second::{self, Lent, Machine, Refusal, IMAGE, LIST_MOST, MEMORY, PICTURE, PLACE};
+use crate::second::{
+    self, Lent, Machine, Refusal, IMAGE, LIST_MOST, MEMORY, MOVE_BACK, MOVE_FORWARD, MOVE_STEP,
+    MOVE_TICK, PICTURE, PLACE,
+};
 
 pub struct PlainList {
     places: usize,
-    kept: usize,
     /// States older than the places reach are left out; no back gets there.
     states: VecDeque<State>,
+    /// Which of them it is on. So kept is how many stand below it, and ahead how
+    /// many above it.
+    finger: usize,
 }
 
 #[derive(Clone)]
 struct State {
-    /// Its next and kept are not used: the list has a kept number of its own.
+    /// Its next, kept and ahead are not used: the list has its own counts.
     machine: Machine,
     memory: Vec<u8>,
     picture: Vec<u8>,
@@ -38,7 +45,7 @@ impl State {
             history: &mut [0; PLACE],
         };
         action(&mut state.machine, &mut lent)?;
-        (state.machine.next, state.machine.kept) = (0, 0);
+        forget_numbers(&mut state.machine);
         Ok(state)
     }
 }
@@ -55,10 +62,11 @@ impl PlainList {
         }
         let mut machine = Machine::from_image(&host.image);
         let places = second::places(&host.history);
-        if !machine.is_sound() || usize::from(machine.next) >= places || machine.kept != 0 {
+        let empty = machine.kept == 0 && machine.ahead == 0;
+        if !machine.is_sound() || usize::from(machine.next) >= places || !empty {
             return None;
         }
-        machine.next = 0;
+        forget_numbers(&mut machine);
         let first = State {
             machine,
             memory: host.memory.clone(),
@@ -66,8 +74,8 @@ impl PlainList {
         };
         Some(PlainList {
             places,
-            kept: 0,
             states: VecDeque::from([first]),
+            finger: 0,
         })
     }
 
@@ -84,6 +92,7 @@ impl PlainList {
             },
             Call::Tick => self.tick(),
             Call::Back => self.back(),
+            Call::Forward => self.forward(),
             Call::Run {
                 ticks,
                 keys,
@@ -109,15 +118,16 @@ impl PlainList {
                 keys,
                 randoms,
             } => {
-                if !fit(moves, keys, randoms) || moves.iter().any(|&made| made > 2) {
+                if !fit(moves, keys, randoms) || moves.iter().any(|&m| m > MOVE_FORWARD) {
                     return Refusal::Length as u32;
                 }
                 let mut refusal = 0;
                 for entry in 0..moves.len() {
                     refusal = match moves[entry] {
-                        second::MOVE_STEP => self.step(keys[entry], randoms[entry]),
-                        second::MOVE_TICK => self.tick(),
-                        _ => self.back(),
+                        MOVE_STEP => self.step(keys[entry], randoms[entry]),
+                        MOVE_TICK => self.tick(),
+                        MOVE_BACK => self.back(),
+                        _ => self.forward(),
                     };
                 }
                 refusal
@@ -128,68 +138,90 @@ impl PlainList {
 
     fn step(&mut self, keys: u16, random: u8) -> u32 {
         let stepped = self
-            .last()
+            .at_finger()
             .after(|machine, lent| second::step(machine, lent, keys, random).map(drop));
         self.add(stepped)
     }
 
     fn tick(&mut self) -> u32 {
         let ticked = self
-            .last()
+            .at_finger()
             .after(|machine, lent| second::tick(machine, lent.history));
         self.add(ticked)
     }
 
     fn back(&mut self) -> u32 {
-        if self.kept == 0 {
+        if self.kept() == 0 {
             return Refusal::NothingKept as u32;
         }
-        self.kept -= 1;
-        self.states.pop_back();
+        self.finger -= 1;
         0
     }
 
-    fn last(&self) -> &State {
-        self.states.back().expect("the first state is never struck")
+    fn forward(&mut self) -> u32 {
+        if self.ahead() == 0 {
+            return Refusal::NothingAhead as u32;
+        }
+        self.finger += 1;
+        0
+    }
+
+    fn at_finger(&self) -> &State {
+        &self.states[self.finger]
+    }
+
+    fn kept(&self) -> usize {
+        self.finger
+    }
+
+    fn ahead(&self) -> usize {
+        self.states.len() - 1 - self.finger
     }
 
     fn add(&mut self, state: Result<State, Refusal>) -> u32 {
         match state {
             Err(refusal) => refusal as u32,
             Ok(state) => {
-                self.kept = (self.kept + 1).min(self.places);
+                self.states.truncate(self.finger + 1);
                 self.states.push_back(state);
                 if self.states.len() > self.places + 1 {
                     self.states.pop_front();
                 }
+                self.finger = self.states.len() - 1;
                 0
             }
         }
     }
 
-    /// What of the machine does not equal the last of the list, if anything.
+    /// What of the machine does not equal the state at the finger, if anything.
     pub fn differs_from(
         &self,
         image: &[u8],
         memory: &[u8],
         picture: &[u8],
     ) -> Option<&'static str> {
-        let last = self.last();
+        let state = self.at_finger();
         let mut machine = Machine::from_image(image);
-        let kept = usize::from(machine.kept);
-        (machine.next, machine.kept) = (0, 0);
-        if machine != last.machine {
+        let (kept, ahead) = (usize::from(machine.kept), usize::from(machine.ahead));
+        forget_numbers(&mut machine);
+        if machine != state.machine {
             Some("state")
-        } else if memory != last.memory {
+        } else if memory != state.memory {
             Some("memory")
-        } else if picture != last.picture {
+        } else if picture != state.picture {
             Some("picture")
-        } else if kept != self.kept {
+        } else if kept != self.kept() {
             Some("kept number")
+        } else if ahead != self.ahead() {
+            Some("ahead number")
         } else {
             None
         }
     }
+}
+
+fn forget_numbers(machine: &mut Machine) {
+    (machine.next, machine.kept, machine.ahead) = (0, 0, 0);
 }
 
 fn fit(first: &[u8], keys: &[u16], randoms: &[u8]) -> bool {

@@ -14,7 +14,7 @@ pub const BYTES_A_ROW: usize = 8;
 pub const STACK: usize = 12;
 pub const START: u16 = 0x0200;
 pub const PROGRAM_MOST: usize = 3584;
-pub const PLACE: usize = 288;
+pub const PLACE: usize = 292;
 pub const HISTORY_MOST: usize = 65_536;
 pub const LIST_MOST: usize = 4096;
 
@@ -22,7 +22,7 @@ pub const LIST_MOST: usize = 4096;
 pub const FIRST_EDITION: u8 = 0;
 pub const SECOND_EDITION: u8 = 1;
 
-/// A state, and the two numbers that go with its history.
+/// A state, and the three numbers that go with its history.
 #[derive(Clone, Debug, PartialEq, Eq)]
 pub struct Machine {
     pub v: [u8; 16],
@@ -36,6 +36,8 @@ pub struct Machine {
     pub wait: Option<u8>,
     pub next: u16,
     pub kept: u16,
+    /// How many actions can be made again.
+    pub ahead: u16,
     /// First or second. A state handed in may have a number that is neither.
     pub edition: u8,
     /// The image's bytes that are kept for later. Sound only when all are 0.
@@ -62,6 +64,7 @@ pub enum Refusal {
     Length = 9,
     Unsound = 10,
     DamagedRecord = 11,
+    NothingAhead = 12,
 }
 
 impl Machine {
@@ -78,6 +81,7 @@ impl Machine {
             wait: None,
             next: 0,
             kept: 0,
+            ahead: 0,
             edition,
             later: [0; LATER.len()],
         }
@@ -142,7 +146,9 @@ fn test_state(machine: &Machine, history: &[u8]) -> Result<(), Refusal> {
     let r = places(history);
     test(machine.is_sound(), Refusal::Unsound)?;
     test(usize::from(machine.next) < r, Refusal::Unsound)?;
-    test(usize::from(machine.kept) <= r, Refusal::Unsound)
+    test(usize::from(machine.kept) <= r, Refusal::Unsound)?;
+    let reach = usize::from(machine.kept) + usize::from(machine.ahead);
+    test(reach <= r, Refusal::Unsound)
 }
 
 // ---- Loading --------------------------------------------------------------
@@ -329,7 +335,13 @@ pub fn step(machine: &mut Machine, lent: &mut Lent, keys: u16, random: u8) -> Re
     let instruction = instruction_at(machine.pc, lent.memory, machine.edition)?;
     test_possible(&instruction, machine)?;
 
-    write_record(machine, lent, old_bytes(&instruction, machine));
+    let inputs = Inputs {
+        keys,
+        random,
+        last: STEP,
+    };
+    write_record(machine, lent, old_bytes(&instruction, machine), inputs);
+    machine.ahead = 0;
     Ok(execute(&instruction, machine, lent, keys, random))
 }
 
@@ -508,7 +520,13 @@ pub fn tick(machine: &mut Machine, history: &mut [u8]) -> Result<(), Refusal> {
         picture: &mut [],
         history,
     };
-    write_record(machine, &mut lent, NOTHING);
+    let inputs = Inputs {
+        keys: 0,
+        random: 0,
+        last: TICK,
+    };
+    write_record(machine, &mut lent, NOTHING, inputs);
+    machine.ahead = 0;
     if machine.delay > 0 {
         machine.delay -= 1;
     }
@@ -565,6 +583,7 @@ pub fn run(
 pub const MOVE_STEP: u8 = 0;
 pub const MOVE_TICK: u8 = 1;
 pub const MOVE_BACK: u8 = 2;
+pub const MOVE_FORWARD: u8 = 3;
 
 /// Makes every move, refused ones included, and answers for the last one.
 pub fn play(
@@ -576,14 +595,15 @@ pub fn play(
 ) -> Result<(), Refusal> {
     test_lengths(lent)?;
     test_lists(moves, keys, randoms)?;
-    test(moves.iter().all(|&m| m <= MOVE_BACK), Refusal::Length)?;
+    test(moves.iter().all(|&m| m <= MOVE_FORWARD), Refusal::Length)?;
     test_state(machine, lent.history)?;
     let mut last = Ok(());
     for entry in 0..moves.len() {
         last = match moves[entry] {
             MOVE_STEP => step(machine, lent, keys[entry], randoms[entry]).map(drop),
             MOVE_TICK => tick(machine, lent.history),
-            _ => back(machine, lent),
+            MOVE_BACK => back(machine, lent),
+            _ => forward(machine, lent),
         };
     }
     last
@@ -627,8 +647,20 @@ fn old_bytes(instruction: &Instruction, machine: &Machine) -> OldBytes {
     }
 }
 
-/// Writes the place at next with what stands before the action.
-fn write_record(machine: &mut Machine, lent: &mut Lent, old: OldBytes) {
+/// What an action was given, which its record keeps too. The keys and the
+/// random byte are 0 for a tick.
+struct Inputs {
+    keys: u16,
+    random: u8,
+    last: u8,
+}
+
+/// The last byte of a record.
+const STEP: u8 = 1;
+const TICK: u8 = 0;
+
+/// Writes the place at next with what stands before the action, and its inputs.
+fn write_record(machine: &mut Machine, lent: &mut Lent, old: OldBytes, inputs: Inputs) {
     let mut record = [0; PLACE];
     record[0..2].copy_from_slice(&old.mark);
     record[2..18].copy_from_slice(&machine.v);
@@ -649,6 +681,9 @@ fn write_record(machine: &mut Machine, lent: &mut Lent, old: OldBytes) {
     for offset in 0..old.count {
         record[32 + offset] = source[old.start + offset];
     }
+    put(&mut record, 288, inputs.keys);
+    record[290] = inputs.random;
+    record[291] = inputs.last;
 
     let r = places(lent.history);
     let place = PLACE * usize::from(machine.next);
@@ -704,6 +739,27 @@ pub fn back(machine: &mut Machine, lent: &mut Lent) -> Result<(), Refusal> {
     }
     machine.next = before_next;
     machine.kept -= 1;
+    machine.ahead += 1;
+    Ok(())
+}
+
+/// Makes the action of the record at next again, with its kept inputs. Of
+/// the record nothing else is read: a step and a tick write it anew, and raise
+/// next and kept as they did.
+pub fn forward(machine: &mut Machine, lent: &mut Lent) -> Result<(), Refusal> {
+    test_lengths(lent)?;
+    test_state(machine, lent.history)?;
+    test(machine.ahead > 0, Refusal::NothingAhead)?;
+    let ahead = machine.ahead;
+    let place = PLACE * usize::from(machine.next);
+    let keys = get(lent.history, place + 288);
+    let random = lent.history[place + 290];
+    match lent.history[place + 291] {
+        STEP => step(machine, lent, keys, random).map(drop)?,
+        TICK => tick(machine, lent.history)?,
+        _ => return Err(Refusal::DamagedRecord),
+    }
+    machine.ahead = ahead - 1;
     Ok(())
 }
 
@@ -724,13 +780,14 @@ fn is_damaged(record: &[u8], present_depth: u8) -> bool {
         || depth.abs_diff(present_depth) > 1
         || (depth == 0 && address != 0)
         || (key > 15 && key != 0xFF)
+        || (record[291] != STEP && record[291] != TICK)
 }
 
 // ---- The image ------------------------------------------------------------
 
 pub const IMAGE: usize = 64;
 /// Where the image holds nothing yet.
-pub const LATER: [usize; 11] = [53, 54, 55, 56, 57, 58, 59, 60, 61, 62, 63];
+pub const LATER: [usize; 9] = [53, 56, 57, 58, 59, 60, 61, 62, 63];
 
 impl Machine {
     pub fn from_image(image: &[u8]) -> Machine {
@@ -750,6 +807,7 @@ impl Machine {
         }
         machine.next = get(image, 48);
         machine.kept = get(image, 50);
+        machine.ahead = get(image, 54);
         machine.later = LATER.map(|at| image[at]);
         machine
     }
@@ -769,6 +827,7 @@ impl Machine {
         put(&mut image, 48, self.next);
         put(&mut image, 50, self.kept);
         image[52] = self.edition;
+        put(&mut image, 54, self.ahead);
         for (at, byte) in LATER.iter().zip(self.later) {
             image[*at] = byte;
         }

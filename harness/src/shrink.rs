@@ -129,7 +129,7 @@ impl Shrinker<'_> {
                     _ => unreachable!("the call stays a write"),
                 });
             }
-            Call::Tick | Call::Back => {}
+            Call::Tick | Call::Back | Call::Forward => {}
         }
     }
 

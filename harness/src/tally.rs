@@ -5,9 +5,9 @@ use std::fmt;
 
 use crate::case::Call;
 
-const CALLS: [&str; 6] = ["load", "step", "tick", "back", "run", "play"];
-/// 0 for done, then the refusals 1 to 11.
-const REFUSALS: usize = 12;
+const CALLS: [&str; 7] = ["load", "step", "tick", "back", "forward", "run", "play"];
+/// 0 for done, then the refusals 1 to 12.
+const REFUSALS: usize = 13;
 
 #[derive(Default)]
 pub struct Tally {
@@ -21,11 +21,18 @@ impl Tally {
             Call::Step { .. } => 1,
             Call::Tick => 2,
             Call::Back => 3,
-            Call::Run { .. } => 4,
-            Call::Play { .. } => 5,
+            Call::Forward => 4,
+            Call::Run { .. } => 5,
+            Call::Play { .. } => 6,
             Call::Write { .. } => return,
         };
         self.counts[row][refusal as usize] += 1;
+    }
+
+    /// Whether a call of this name gave this number.
+    pub fn has(&self, call: &str, refusal: usize) -> bool {
+        let row = CALLS.iter().position(|name| *name == call);
+        row.is_some_and(|row| self.counts[row][refusal] > 0)
     }
 
     pub fn calls(&self) -> u64 {

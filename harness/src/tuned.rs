@@ -9,7 +9,7 @@ use crate::engine::Engine;
 const MEMORY: usize = 4096;
 const PICTURE: usize = 256;
 const ROWS: usize = 32;
-const PLACE: usize = 288;
+const PLACE: usize = 292;
 const HISTORY_MOST: usize = 65_536;
 const IMAGE: usize = 64;
 const ANSWER: usize = 4;
@@ -31,6 +31,7 @@ const PROGRAM_LENGTH: u32 = 8;
 const LENGTH: u32 = 9;
 const UNSOUND: u32 = 10;
 const DAMAGED_RECORD: u32 = 11;
+const NOTHING_AHEAD: u32 = 12;
 
 type Memory = [u8; MEMORY];
 type Picture = [u8; PICTURE];
@@ -70,7 +71,7 @@ impl Registers {
     }
 }
 
-/// The first 32 bytes of a record, before its old bytes, held in numbers.
+/// All of a record but its old bytes, held in numbers.
 struct Head {
     v: u128,
     /// I, PC, depth, last return address, delay: bytes 18 to 25.
@@ -78,6 +79,17 @@ struct Head {
     /// Tone, held key, start, count: bytes 26 to 31.
     end: u64,
     mark: [u8; 2],
+    /// Keys, random byte and kind: the four bytes after the old ones.
+    inputs: u32,
+}
+
+/// The inputs of a tick.
+const TICK: u32 = 0;
+
+/// The inputs of a step.
+#[inline(always)]
+fn step_with(keys: u16, random: u8) -> u32 {
+    u32::from(keys) << 16 | u32::from(random) << 8 | 1
 }
 
 impl Head {
@@ -89,12 +101,11 @@ impl Head {
 
     #[inline(always)]
     fn write(&self, bytes: &mut [u8; 32]) {
-        bytes[0..2].copy_from_slice(&self.mark);
-        bytes[2..18].copy_from_slice(&self.v.to_be_bytes());
-        bytes[18..26].copy_from_slice(&self.middle.to_be_bytes());
-        // Two bytes of the middle are written once more, to write eight at once.
-        let end = self.middle << 48 | self.end;
-        bytes[24..32].copy_from_slice(&end.to_be_bytes());
+        let mark = u128::from(u16::from_be_bytes(self.mark));
+        let first = mark << 112 | self.v >> 16;
+        let second = self.v << 112 | u128::from(self.middle) << 48 | u128::from(self.end);
+        bytes[..16].copy_from_slice(&first.to_be_bytes());
+        bytes[16..].copy_from_slice(&second.to_be_bytes());
     }
 }
 
@@ -111,6 +122,9 @@ struct Work {
     stack: [u16; 16],
     next: usize,
     kept: usize,
+    /// Set by the calls and not by an action, so that a run's actions do no work
+    /// for it.
+    ahead: usize,
     second_edition: bool,
     /// Lit spots that the steps so far have darkened. Only a drawing adds to it,
     /// so other steps do no work for it.
@@ -134,13 +148,15 @@ impl Work {
         let next = usize::from(number(image, 48));
         let kept = usize::from(number(image, 50));
         let edition = image[52];
+        let ahead = usize::from(number(image, 54));
         let sound = depth <= 12
             && entries_from(&stack, depth) == 0
             && (held <= 15 || held == NO_KEY)
             && edition <= SECOND_EDITION
-            && image[53..] == [0; 11]
+            && image[53] == 0
+            && image[56..] == [0; 8]
             && next < places
-            && kept <= places;
+            && kept + ahead <= places;
         if !sound {
             return None;
         }
@@ -156,13 +172,14 @@ impl Work {
             stack,
             next,
             kept,
+            ahead,
             second_edition: edition == SECOND_EDITION,
             went_dark: 0,
         })
     }
 
-    /// The edition stands in the image already, and the eleven bytes after it are
-    /// 0, or it had been refused.
+    /// The edition stands in the image already, and the bytes for later use are 0,
+    /// or it had been refused.
     #[inline(always)]
     fn write(&self, image: &mut Image) {
         image[..16].copy_from_slice(&self.v.0.to_be_bytes());
@@ -182,11 +199,12 @@ impl Work {
         }
         image[48..50].copy_from_slice(&(self.next as u16).to_be_bytes());
         image[50..52].copy_from_slice(&(self.kept as u16).to_be_bytes());
+        image[54..56].copy_from_slice(&(self.ahead as u16).to_be_bytes());
     }
 
     /// The head of a record that keeps no old bytes.
     #[inline(always)]
-    fn head(&self) -> Head {
+    fn head(&self, inputs: u32) -> Head {
         let last = self.stack[usize::from(self.depth.wrapping_sub(1) & 15)];
         Head {
             v: self.v.0,
@@ -197,10 +215,12 @@ impl Work {
                 | u64::from(self.delay),
             end: u64::from(self.tone) << 40 | u64::from(self.held) << 32,
             mark: *b"NO",
+            inputs,
         }
     }
 
-    /// Lends the place at next, holding the head and zeros, and moves on.
+    /// Writes the place at next with the head and zeros, moves on, and lends the
+    /// zeros for the old bytes.
     #[inline(always)]
     fn record<'a>(&mut self, places: &'a mut [Place], head: &Head) -> &'a mut [u8; 256] {
         let count = places.len();
@@ -210,16 +230,17 @@ impl Work {
             self.next = 0;
         }
         self.kept += usize::from(self.kept < count);
-        let (first, old) = place.split_first_chunk_mut().expect("288 hold 32");
+        let (first, rest) = place.split_first_chunk_mut().expect("292 hold 32");
         head.write(first);
-        let old: &mut [u8; 256] = old.try_into().expect("288 less 32");
-        old.fill(0);
+        let (old, inputs) = rest.split_first_chunk_mut().expect("260 hold 256");
+        clear(old);
+        inputs.copy_from_slice(&head.inputs.to_be_bytes());
         old
     }
 
     #[inline(always)]
     fn tick(&mut self, places: &mut [Place]) {
-        let head = self.head();
+        let head = self.head(TICK);
         self.record(places, &head);
         self.delay = self.delay.saturating_sub(1);
         self.tone = self.tone.saturating_sub(1);
@@ -245,7 +266,7 @@ impl Work {
         let y = usize::from(low >> 4);
         let address = word & 0x0FFF;
         let (vx, vy) = (self.v.get(x), self.v.get(y));
-        let mut head = self.head();
+        let mut head = self.head(step_with(keys, random));
         let mut pc = self.pc + 2;
         let skip = |condition: bool| 2 * u16::from(condition);
         let mut held = NO_KEY;
@@ -455,6 +476,7 @@ impl Work {
             || depth.abs_diff(self.depth) > 1
             || (depth == 0 && last != 0)
             || (held > 15 && held != NO_KEY)
+            || record[PLACE - 1] > 1
         {
             return DAMAGED_RECORD;
         }
@@ -468,7 +490,7 @@ impl Work {
             }
             _ => return DAMAGED_RECORD,
         }
-        let v = record[2..].first_chunk().expect("286 hold 16");
+        let v = record[2..].first_chunk().expect("290 hold 16");
         self.v = Registers(u128::from_be_bytes(*v));
         self.i = number(record, 18);
         self.pc = number(record, 20);
@@ -482,7 +504,29 @@ impl Work {
         self.held = held;
         self.next = before;
         self.kept -= 1;
+        self.ahead += 1;
         0
+    }
+
+    #[inline(always)]
+    fn forward(&mut self, memory: &mut Memory, picture: &mut Picture, places: &mut [Place]) -> u32 {
+        if self.ahead == 0 {
+            return NOTHING_AHEAD;
+        }
+        let [high, low, random, kind] = *places[self.next].last_chunk().expect("292 hold 4");
+        let refusal = match kind {
+            0 => {
+                self.tick(places);
+                0
+            }
+            1 => {
+                let keys = u16::from_be_bytes([high, low]);
+                self.step(memory, picture, places, keys, random)
+            }
+            _ => DAMAGED_RECORD,
+        };
+        self.ahead -= usize::from(refusal == 0);
+        refusal
     }
 }
 
@@ -499,6 +543,18 @@ fn entries_from(stack: &[u16; 16], depth: u8) -> u16 {
         };
     }
     over
+}
+
+/// Places of 292 bytes begin at every fourth address, where a store of sixteen
+/// bytes often lies across two lines of the cache. All but the first and the last
+/// are made at rounded addresses, where none does.
+#[inline(always)]
+fn clear(old: &mut [u8; 256]) {
+    let rounded = old.as_ptr().addr().wrapping_neg() & 15;
+    old[..16].fill(0);
+    old[240..].fill(0);
+    let middle: &mut [u8; 240] = old[rounded..].first_chunk_mut().expect("256 less 15");
+    middle.fill(0);
 }
 
 /// The bytes of V0 to VX in a 16-byte number.
@@ -533,7 +589,7 @@ fn fetch(memory: &Memory, i: usize, x: usize, v: &mut Registers) {
     v.0 = v.0 & !up_to(x) | u128::from_be_bytes(bytes) & up_to(x);
 }
 
-// ---- The six calls --------------------------------------------------------
+// ---- The seven calls ------------------------------------------------------
 
 /// The hand-tuned rival of the measurements.
 pub struct Tuned;
@@ -625,6 +681,7 @@ impl Engine for Tuned {
         };
         let refusal = work.step(lent.memory, lent.picture, lent.places, keys, random);
         if refusal == 0 {
+            work.ahead = 0;
             work.write(lent.image);
             answer[0] = 1;
             answer[1] = work.went_dark;
@@ -641,6 +698,7 @@ impl Engine for Tuned {
             return UNSOUND;
         };
         work.tick(places);
+        work.ahead = 0;
         work.write(image);
         0
     }
@@ -653,6 +711,20 @@ impl Engine for Tuned {
             return UNSOUND;
         };
         let refusal = work.back(lent.memory, lent.picture, lent.places);
+        if refusal == 0 {
+            work.write(lent.image);
+        }
+        refusal
+    }
+
+    fn forward(&self, lent: Lent) -> u32 {
+        let Some(lent) = fitting(lent) else {
+            return LENGTH;
+        };
+        let Some(mut work) = Work::read(lent.image, lent.places.len()) else {
+            return UNSOUND;
+        };
+        let refusal = work.forward(lent.memory, lent.picture, lent.places);
         if refusal == 0 {
             work.write(lent.image);
         }
@@ -682,6 +754,10 @@ impl Engine for Tuned {
             }
             accepted += 1;
         }
+        // An action was accepted if a step was, or else a tick before the first.
+        if accepted > 0 || lists.first.first().is_some_and(|&ticks| ticks > 0) {
+            work.ahead = 0;
+        }
         work.write(lent.image);
         answer[0] = accepted;
         answer[1] = work.went_dark;
@@ -690,7 +766,7 @@ impl Engine for Tuned {
 
     fn play(&self, lent: Lent, lists: Lists) -> u32 {
         let moves = lists.first;
-        let fits = lists_fit(lists) && moves.iter().all(|&made| made <= 2);
+        let fits = lists_fit(lists) && moves.iter().all(|&made| made <= 3);
         let Some(lent) = fitting(lent).filter(|_| fits) else {
             return LENGTH;
         };
@@ -700,12 +776,20 @@ impl Engine for Tuned {
         let mut refusal = 0;
         for (made, keys, random) in entries(lists) {
             refusal = match made {
-                0 => work.step(lent.memory, lent.picture, lent.places, keys, random),
+                0 => {
+                    let refusal = work.step(lent.memory, lent.picture, lent.places, keys, random);
+                    if refusal == 0 {
+                        work.ahead = 0;
+                    }
+                    refusal
+                }
                 1 => {
                     work.tick(lent.places);
+                    work.ahead = 0;
                     0
                 }
-                _ => work.back(lent.memory, lent.picture, lent.places),
+                2 => work.back(lent.memory, lent.picture, lent.places),
+                _ => work.forward(lent.memory, lent.picture, lent.places),
             };
         }
         work.write(lent.image);

@@ -73,7 +73,8 @@ fn lengths() {
     }
 }
 
-/// Neither next nor kept is looked at, and no other part of the state is shown.
+/// Next, kept and ahead are not looked at, and no other part of the state is
+/// shown.
 #[test]
 fn what_is_not_shown() {
     let fresh = Machine::fresh(FIRST_EDITION);
@@ -84,6 +85,7 @@ fn what_is_not_shown() {
         wait: Some(7),
         next: 0xFFFF,
         kept: 0xFFFF,
+        ahead: 0xFFFF,
         edition: 1,
         ..fresh.clone()
     };

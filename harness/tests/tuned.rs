@@ -6,6 +6,17 @@ use harness::random::Random;
 use harness::tally::Tally;
 use harness::tuned::Tuned;
 
+/// Every number that each call can give.
+const NUMBERS: [(&str, &[usize]); 7] = [
+    ("load", &[0, 8, 9, 10]),
+    ("step", &[0, 1, 2, 3, 4, 5, 6, 9, 10]),
+    ("tick", &[0, 9, 10]),
+    ("back", &[0, 7, 9, 10, 11]),
+    ("forward", &[0, 1, 2, 3, 4, 5, 6, 9, 10, 11, 12]),
+    ("run", &[0, 1, 2, 3, 4, 5, 6, 9, 10]),
+    ("play", &[0, 1, 2, 3, 4, 5, 6, 7, 9, 10, 11, 12]),
+];
+
 #[test]
 fn the_tuned_engine_equals_the_second_interpreter() {
     let random = Random::new(1978);
@@ -14,6 +25,11 @@ fn the_tuned_engine_equals_the_second_interpreter() {
         let case = generate::case(&random);
         if let Err(mismatch) = check(&Tuned, &case, &mut tally) {
             panic!("{case}\n{mismatch}");
+        }
+    }
+    for (call, numbers) in NUMBERS {
+        for number in numbers {
+            assert!(tally.has(call, *number), "no {call} gave {number}");
         }
     }
 }

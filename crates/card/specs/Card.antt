@@ -8,7 +8,7 @@ use lib.Dec.{eqb}
 use Rattle.rules.specs.declared.Refusal.the-variants.{BufferLength}
 use Rattle.rules.specs.Number.{pick, unless}
 use Rattle.rules.specs.Refusal.{numberOf}
-use Rattle.rules.specs.Call.{step, tick, back}
+use Rattle.rules.specs.Call.{step, tick, back, forward}
 use Rattle.rules.specs.Run.{run}
 use Rattle.rules.specs.Dark.{stepDark, runDark}
 use Rattle.rules.specs.State.{sound}
@@ -48,6 +48,11 @@ cardTick image memory picture history =
 unfoldable pub cardBack : List ℕ → List ℕ → List ℕ → List ℕ → Card
 cardBack image memory picture history =
     pick (sized image) (whole image (back (worldOf image memory picture history)))
+    (untouched (numberOf BufferLength) image memory picture history)
+
+unfoldable pub cardForward : List ℕ → List ℕ → List ℕ → List ℕ → Card
+cardForward image memory picture history =
+    pick (sized image) (whole image (forward (worldOf image memory picture history)))
     (untouched (numberOf BufferLength) image memory picture history)
 
 unfoldable pub cardRun : List ℕ → List ℕ → List ℕ → Bool → List ℕ → List ℕ → List ℕ → List ℕ → Card

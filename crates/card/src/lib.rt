@@ -106,6 +106,23 @@ pub extern "C" fn card_back(
 }
 
 #[no_mangle]
+pub extern "C" fn card_forward(
+    image: &mut [u8],
+    memory: &mut [u8],
+    picture: &mut [u8],
+    history: &mut [u8],
+) -> u32
+    ensures { λ r. ⌜ Leaves
+        (spec.cardForward (now (image .entry)) (now (memory .entry)) (now (picture .entry)) (now (history .entry))) r
+        (now (image .exit)) (now (memory .exit)) (now (picture .exit)) (now (history .exit)) ⌝ }
+{
+    if image.len() != image::IMAGE {
+        return 9;
+    }
+    imaged::forward(image, memory, picture, history)
+}
+
+#[no_mangle]
 pub extern "C" fn card_run(
     image: &mut [u8],
     memory: &mut [u8],

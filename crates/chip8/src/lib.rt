@@ -13,10 +13,14 @@ pub use stepping::tick;
 // Goes one action back.
 pub use restoring::back;
 
+// Goes one action forward again, after a step back.
+pub use repeating::forward;
+
 // For each entry makes the ticks, then a step, up to the first step that is refused.
 pub use running::run;
 
-// Makes a list of moves (0 a step, 1 a tick, 2 a step back), each on what the last one gave, and answers what came of the last.
+// Makes a list of moves (0 a step, 1 a tick, 2 a step back, 3 a step forward), each on what the last one gave, and answers what
+// came of the last.
 pub use playing::play;
 
 // For what is built above the library: the tests 9 and 10, whether a state is sound, and a line of a digit's published shape.

@@ -1,8 +1,8 @@
-// Whether a record is damaged: the tests of document 01's list. The specs of `rules`, Record.antt, say what a record is.
+// Whether a record is damaged: the tests of document 01's list, and the last byte's. The specs of `rules`, Record.antt, say what a record is.
 ghost use mathlib.Core.Path.{_≡_};
 ghost use lib.ListN.{length};
 ghost use Rattle.rules.specs.Record.{placeSize, atDepth};
-ghost use Rattle.rules.specs.Record.{byteAt, marked, known, allowed, depthSound, keySound, damaged, changeAt};
+ghost use Rattle.rules.specs.Record.{byteAt, marked, known, allowed, depthSound, keySound, kindSound, damaged, changeAt};
 use rules::Change;
 use rules::Machine;
 
@@ -83,6 +83,14 @@ fn key_sound(place: &[u8]) -> bool
     (place[keeping::AT_HELD] <= 15) | (place[keeping::AT_HELD] == 0xFF)
 }
 
+// The last byte is that of a step or of a tick.
+pub fn kind_sound(place: &[u8]) -> bool
+    requires { ⌜ length (now place) ≡ placeSize ⌝ }
+    ensures { λ r. ⌜ r ≡ kindSound (now (place .entry)) ⌝ }
+{
+    place[keeping::AT_KIND] <= 1
+}
+
 // Whether a record is damaged, beside a state of the present depth.
 pub fn is_damaged(place: &[u8], present: u8) -> bool
     requires { ⌜ length (now place) ≡ placeSize ⌝ }
@@ -91,5 +99,6 @@ pub fn is_damaged(place: &[u8], present: u8) -> bool
     !(is_known(place)
         & is_allowed(change_at(place))
         & depth_sound(place, present)
-        & key_sound(place))
+        & key_sound(place)
+        & kind_sound(place))
 }

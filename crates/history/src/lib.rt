@@ -7,9 +7,10 @@ ghost use Rattle.history.specs.Restored.{restored};
 ghost use Rattle.rules.specs.Memory.{part};
 ghost use Rattle.rules.specs.State.{stackSize};
 ghost use Rattle.rules.specs.Record.{placeSize, atV, atDepth};
-ghost use Rattle.rules.specs.Record.{byteAt, waitAt, stackAt, machineAt};
+ghost use Rattle.rules.specs.Record.{byteAt, waitAt, stackAt, machineAt, actionAt};
 pub use keeping::AT_OLD;
 pub use keeping::PLACE;
+use rules::Action;
 use rules::Change;
 use rules::Machine;
 use rules::Timers;
@@ -101,6 +102,19 @@ fn machine_at(place: &[u8], m: Machine) -> Machine
         },
         wait: wait_at(place),
         edition,
+    }
+}
+
+// The action that the record was written beside, with its inputs.
+pub fn action_at(place: &[u8]) -> Action
+    requires { ⌜ length (now place) ≡ placeSize ⌝ }
+    ensures { λ r. ⌜ r ≡ actionAt (now (place .entry)) ⌝ }
+{
+    let keys = memory::word_at(place, keeping::AT_KEYS);
+    if place[keeping::AT_KIND] == 1 {
+        Action::Step(keys, place[keeping::AT_RANDOM])
+    } else {
+        Action::Tick
     }
 }
 

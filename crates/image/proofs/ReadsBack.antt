@@ -7,9 +7,9 @@ use native.Mathlib.Nat.{add-zero}
 use native.Mathlib.Numerals.{add-one}
 use native.Mathlib.Omega.{arith}
 use lib.ListN.{length, getD, take, drop, replicate, take-append-drop, drop-of-length-le, length-append, length-drop}
-use lib.Dec.{leb}
+use lib.Dec.{eqb, leb}
 use lib.Seq.{drop-cons, drop-drop, take-at, drop-at}
-use borrow.Author.Tests.{leb-true}
+use borrow.Author.Tests.{leb-true, eqb-true}
 use Rattle.rules.specs.declared.Edition.{Edition}
 use Rattle.rules.specs.declared.Edition.the-variants.{First, Second}
 use Rattle.rules.specs.declared.Machine.{Machine}
@@ -58,11 +58,11 @@ module _ (b : List ℕ) (small : Below 256 b) where
   low : (k : ℕ) → wordAt b k % 256 ≡ byteAt b (k + 1)
   low k = omega (arith, byte-small k, byte-small (k + 1))
 
-  whole : length b ≡ 64 → zeros (drop 53 b) ≡ true → b ≡ take 16 b ++ (bytes 37 16 b ++ zeroes 11)
+  whole : length b ≡ 64 → zeros (drop 56 b) ≡ true → b ≡ take 16 b ++ (bytes 40 16 b ++ zeroes 8)
   whole size clear =
-      let left : length (drop 53 b) ≡ 11 = simp (length-drop, size) in
+      let left : length (drop 56 b) ≡ 8 = simp (length-drop, size) in
       sym (take-append-drop 16 b)
-      ∙ ap (λ (l : List ℕ). take 16 b ++ l) (unroll 37 16 b (omega arith) ∙ ap (λ (l : List ℕ). bytes 37 16 b ++ l) (zeros-are (drop 53 b) clear ∙ ap zeroes left))
+      ∙ ap (λ (l : List ℕ). take 16 b ++ l) (unroll 40 16 b (omega arith) ∙ ap (λ (l : List ℕ). bytes 40 16 b ++ l) (zeros-are (drop 56 b) clear ∙ ap zeroes left))
 
 to-the-right : (x m s u n z : List ℕ) → x ++ m ++ s ++ u ++ n ++ z ≡ x ++ (m ++ (s ++ (u ++ (n ++ z))))
 to-the-right x m s u n z = simp append-assoc
@@ -71,17 +71,20 @@ pub reads-back : ReadsBack
 unfolding imageOf machineOf trailOf bytes
 reads-back b size small order =
     let m = machineOf b in
-    let (known, clear) = and-eq-true-iff (leb (byteAt b 52) 1) (zeros (drop 53 b)) .0 order in
+    let (front, clear) = and-eq-true-iff (leb (byteAt b 52) 1 && eqb (byteAt b 53) 0) (zeros (drop 56 b)) .0 order in
+    let (known, unused) = and-eq-true-iff (leb (byteAt b 52) 1) (eqb (byteAt b 53) 0) .0 front in
+    let none = sym (eqb-true (byteAt b 53) 0 unused) in
     let high = high b small in
     let low = low b small in
     let depth : depthOf b ≡ byteAt b 20 = rw order in
-    to-the-right (part b 0 16) (middle m) (sixFrom 0 (m .stack)) (sixFrom 6 (m .stack)) (numbers (trailOf b)) (tail m)
+    to-the-right (part b 0 16) (middle m) (sixFrom 0 (m .stack)) (sixFrom 6 (m .stack)) (numbers (trailOf b)) (tail m (trailOf b))
     ∙ (λ i. part b 0 16 ++ (
     high 16 i ∷ low 16 i ∷ high 18 i ∷ low 18 i ∷ depth i ∷ byteAt b 21 ∷ byteAt b 22 ∷ held-back (byteAt b 23) i ∷
     high 24 i ∷ low 24 i ∷ high 26 i ∷ low 26 i ∷ high 28 i ∷ low 28 i ∷ high 30 i ∷ low 30 i ∷
     high 32 i ∷ low 32 i ∷ high 34 i ∷ low 34 i ∷ high 36 i ∷ low 36 i ∷ high 38 i ∷ low 38 i ∷
     high 40 i ∷ low 40 i ∷ high 42 i ∷ low 42 i ∷ high 44 i ∷ low 44 i ∷ high 46 i ∷ low 46 i ∷
-    high 48 i ∷ low 48 i ∷ high 50 i ∷ low 50 i ∷ edition-back (byteAt b 52) (leb-true _ _ known) i ∷ zeroes 11))
+    high 48 i ∷ low 48 i ∷ high 50 i ∷ low 50 i ∷ edition-back (byteAt b 52) (leb-true _ _ known) i ∷ none i ∷ high 54 i ∷ low 54 i ∷
+    zeroes 8))
     ∙ sym (whole b small size clear)
 
 -- ---- a state that its image holds whole
@@ -92,27 +95,27 @@ module _ (m : Machine) (t : Trail) (h : Storable m t) where
 
   -- what stands behind the variables
   abbrev rest : List ℕ
-  rest = middle m ++ (sixFrom 0 (m .stack) ++ (sixFrom 6 (m .stack) ++ (numbers t ++ tail m)))
+  rest = middle m ++ (sixFrom 0 (m .stack) ++ (sixFrom 6 (m .stack) ++ (numbers t ++ tail m t)))
 
   split : image ≡ m .v ++ rest
   unfolding imageOf
-  split = to-the-right (m .v) (middle m) (sixFrom 0 (m .stack)) (sixFrom 6 (m .stack)) (numbers t) (tail m)
+  split = to-the-right (m .v) (middle m) (sixFrom 0 (m .stack)) (sixFrom 6 (m .stack)) (numbers t) (tail m t)
 
   at : (k : ℕ) → byteAt image (16 + k) ≡ byteAt rest k
   at k = ap (λ (b : List ℕ). byteAt b (16 + k)) split ∙ past (m .v) rest 16 k (h .typed .vs)
 
-  ends : drop 53 image ≡ replicate 11 0
+  ends : drop 56 image ≡ replicate 8 0
   unfolding imageOf
   ends =
       let front = m .v ++ middle m ++ sixFrom 0 (m .stack) ++ sixFrom 6 (m .stack) ++ numbers t in
-      sym (drop-drop 1 52 image) ∙ ap (drop 1) (drop-at front (tail m) 52 (simp (length-append, h .typed .vs)))
+      sym (drop-drop 4 52 image) ∙ ap (drop 4) (drop-at front (tail m t) 52 (simp (length-append, h .typed .vs)))
 
   edition-known : (e : Edition) → leb (editionByte e) 1 ≡ true
   edition-known First = refl
   edition-known Second = refl
 
   order : inOrder image ≡ true
-  order = rw (at 36, ends, edition-known (m .edition))
+  order = rw (at 36, at 37, ends, edition-known (m .edition))
 
   entry : (k : ℕ) → getD (m .stack) k 0 < 65536
   entry k = below-get (omega arith) (h .typed .stack) k
@@ -159,7 +162,8 @@ comes-back m t h =
     let wait : waitOf (byteAt b 23) ≡ m .wait = ap waitOf (at 7) ∙ wait-back (m .wait) (sound-good m (h .typed) (h .sound) .wait) in
     let edition : editionOf (byteAt b 52) ≡ m .edition = ap editionOf (at 36) ∙ edition-kept (m .edition) in
     let next = word-back b 48 (t .next) (at 32) (at 33) (h .next) in
-    let kept = word-back b 50 (t .kept) (at 34) (at 35) (h .kept) in (
+    let kept = word-back b 50 (t .kept) (at 34) (at 35) (h .kept) in
+    let ahead = word-back b 54 (t .ahead) (at 38) (at 39) (h .ahead) in (
       λ j. record {
         v = v j;
         i = i j;
@@ -170,5 +174,5 @@ comes-back m t h =
         wait = wait j;
         edition = edition j;
       },
-      λ j. record { next = next j; kept = kept j },
+      λ j. record { next = next j; kept = kept j; ahead = ahead j },
     )

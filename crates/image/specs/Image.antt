@@ -37,16 +37,16 @@ sixFrom k s = six (getD s k 0) (getD s (k + 1) 0) (getD s (k + 2) 0) (getD s (k 
 abbrev pub numbers : Trail → List ℕ
 numbers t = word (t .next) ++ word (t .kept)
 
--- 52: the edition, 0 for the first and 1 for the second, and zeros, kept for what is to come
+-- 52: the edition, 0 for the first and 1 for the second; 54: ahead; and zeros, kept for what is to come
 abbrev pub editionByte : Edition → ℕ
 editionByte First = 0
 editionByte Second = 1
 
-abbrev pub tail : Machine → List ℕ
-tail m = editionByte (m .edition) ∷ replicate 11 0
+abbrev pub tail : Machine → Trail → List ℕ
+tail m t = (editionByte (m .edition) ∷ 0 ∷ []) ++ word (t .ahead) ++ replicate 8 0
 
 unfoldable pub imageOf : Machine → Trail → List ℕ
-imageOf m t = m .v ++ middle m ++ sixFrom 0 (m .stack) ++ sixFrom 6 (m .stack) ++ numbers t ++ tail m
+imageOf m t = m .v ++ middle m ++ sixFrom 0 (m .stack) ++ sixFrom 6 (m .stack) ++ numbers t ++ tail m t
 
 -- ---- from an image to the state that it stands for
 
@@ -61,9 +61,9 @@ stackOf b =
 abbrev pub editionOf : ℕ → Edition
 editionOf b = pick (eqb b 1) Second First
 
--- an image is in order if its edition is one of the two and the bytes behind it are 0
+-- an image is in order if its edition is one of the two and the bytes that are kept are 0
 abbrev pub inOrder : List ℕ → Bool
-inOrder b = leb (byteAt b 52) 1 && zeros (drop 53 b)
+inOrder b = leb (byteAt b 52) 1 && eqb (byteAt b 53) 0 && zeros (drop 56 b)
 
 -- one that is not stands for an unsound state: its depth is 255
 abbrev pub depthOf : List ℕ → ℕ
@@ -83,7 +83,7 @@ machineOf b =
     }
 
 unfoldable pub trailOf : List ℕ → Trail
-trailOf b = record { next = wordAt b 48; kept = wordAt b 50 }
+trailOf b = record { next = wordAt b 48; kept = wordAt b 50; ahead = wordAt b 54 }
 
 -- ---- THE CLAIMS, proved in proofs/ReadsBack.antt
 
@@ -92,12 +92,13 @@ abbrev pub ReadsBack : Type 0
 ReadsBack =
     (b : List ℕ) → length b ≡ imageSize → Below 256 b → inOrder b ≡ true → imageOf (machineOf b) (trailOf b) ≡ b
 
--- a state that its image holds whole: its numbers are ones that their types hold, it is sound, and next and kept are numbers of two bytes
+-- a state that its image holds whole: its numbers are ones that their types hold, it is sound, and next, kept and ahead are numbers of two bytes
 pub record Storable (m : Machine) (t : Trail) : Type 0 where
   pub typed : TypedMachine m
   pub sound : sound m ≡ true
   pub next : t .next < 65536
   pub kept : t .kept < 65536
+  pub ahead : t .ahead < 65536
 
 -- such a state that is written and read again is the same state
 abbrev pub ComesBack : Type 0

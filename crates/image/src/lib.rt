@@ -1,4 +1,4 @@
-// A state and its two numbers, read from an image of 64 bytes and written to one.
+// A state and its numbers, read from an image of 64 bytes and written to one.
 ghost use mathlib.Core.Path.{_≡_};
 ghost use mathlib.Core.List.{_++_};
 ghost use Prim.Native.Nat.{_+_, _<_};
@@ -26,12 +26,12 @@ pub struct Standing {
 
 // ---- reading
 
-// Whether the bytes that are kept for later are 0.
+// Whether the last bytes, which are kept for later, are 0.
 fn ends_clear(image: &[u8]) -> bool
     requires { ⌜ length (now image) ≡ imageSize ⌝ }
-    ensures { λ r. ⌜ r ≡ zeros (drop 53 (now (image .entry))) ⌝ }
+    ensures { λ r. ⌜ r ≡ zeros (drop 56 (now (image .entry))) ⌝ }
 {
-    let mut k = 53;
+    let mut k = 56;
     while k < IMAGE {
         if image[k] != 0 {
             return false;
@@ -41,12 +41,12 @@ fn ends_clear(image: &[u8]) -> bool
     true
 }
 
-// Whether the edition is one of the two, and all behind it 0. An image that is not in order stands for no sound state.
+// Whether the edition is one of the two, and all that is kept for later 0. An image that is not in order stands for no sound state.
 pub fn in_order(image: &[u8]) -> bool
     requires { ⌜ length (now image) ≡ imageSize ⌝ }
     ensures { λ r. ⌜ r ≡ inOrder (now (image .entry)) ⌝ }
 {
-    (image[52] <= 1) & ends_clear(image)
+    (image[52] <= 1) & (image[53] == 0) & ends_clear(image)
 }
 
 fn registers_in(image: &[u8]) -> [u8; 16]
@@ -134,6 +134,7 @@ fn trail_in(image: &[u8]) -> Trail
     Trail {
         next: memory::word_at(image, 48) as usize,
         kept: memory::word_at(image, 50) as usize,
+        ahead: memory::word_at(image, 54) as usize,
     }
 }
 
@@ -174,11 +175,25 @@ fn edition_byte(edition: Edition) -> u8
     }
 }
 
-fn tail_of(m: Machine) -> [u8; 12]
-    ensures { λ r. ⌜ r ≡ tail m ⌝ }
+fn tail_of(m: Machine, t: Trail) -> [u8; 12]
+    ensures { λ r. ⌜ r ≡ tail m t ⌝ }
 {
     let edition = m.edition;
-    [edition_byte(edition), 0, 0, 0, 0, 0, 0, 0, 0, 0, 0, 0]
+    let ahead = (t.ahead % 65536) as u16;
+    [
+        edition_byte(edition),
+        0,
+        memory::high(ahead),
+        memory::low(ahead),
+        0,
+        0,
+        0,
+        0,
+        0,
+        0,
+        0,
+        0,
+    ]
 }
 
 // The variables and the stack come by value, so that they can't lie where they are written.
@@ -226,12 +241,12 @@ fn lay_numbers(image: &mut [u8], t: Trail)
     put_word(image, 50, (t.kept % 65536) as u16);
 }
 
-// The edition, and zeros to the end.
-fn lay_tail(image: &mut [u8], m: Machine)
+// The edition, ahead, and zeros to the end.
+fn lay_tail(image: &mut [u8], m: Machine, t: Trail)
     requires { ⌜ length (now image) ≡ imageSize ⌝ }
-    ensures { λ _. ⌜ Stands (tail m) (now (image .entry)) 52 (now (image .exit)) 64 ⌝ }
+    ensures { λ _. ⌜ Stands (tail m t) (now (image .entry)) 52 (now (image .exit)) 64 ⌝ }
 {
-    let tail = tail_of(m);
+    let tail = tail_of(m, t);
     memory::lay(image, 52, &tail);
 }
 
@@ -246,5 +261,5 @@ pub fn write(image: &mut [u8], m: Machine, t: Trail)
     lay_middle(image, m);
     lay_stack(image, stack);
     lay_numbers(image, t);
-    lay_tail(image, m);
+    lay_tail(image, m, t);
 }

@@ -14,10 +14,11 @@ use Rattle.rules.specs.declared.Trail.{Trail}
 use Rattle.rules.specs.declared.Outcome.{Outcome}
 use Rattle.rules.specs.Number.{unless}
 use Rattle.rules.specs.State.{sound, fresh}
-use Rattle.rules.specs.Record.{byteAt, wordAt}
+use Rattle.rules.specs.Record.{byteAt, wordAt, actionAt}
 use Rattle.rules.specs.World.{World, Answer, world, boardOf, places, historyFits, buffersFit, trailFits, soundly, answered}
 use Rattle.rules.specs.Load.{load, loadRefusal, loaded, freshTrail, freshWorld}
 use Rattle.rules.specs.Call.{step, stepRefusal, stepped, tick, tickRefusal, ticked, back, backRefusal, lastRecord, undone}
+use Rattle.rules.specs.Call.{forward, forwardRefusal, nextRecord, redone}
 use Rattle.rules.specs.Run.{run, runRefusal, play, playRefusal}
 use Rattle.rules.specs.Typed.{Below, none, more, TypedMachine, TypedBoard}
 use Rattle.rules.specs.Promise.{Gives}
@@ -25,7 +26,7 @@ use Rattle.rules.proofs.Choices.{choice, by-test, passed}
 use Rattle.rules.proofs.Parts.{part-length, below-get, below-take, below-drop}
 use Rattle.rules.proofs.Sound.{good-sound}
 use Rattle.rules.proofs.Load.{fresh-typed}
-use Rattle.rules.proofs.Ready.{Ready, tests-ready, ready-typed, next-below, grown-most, stepped-ready, undone-ready}
+use Rattle.rules.proofs.Ready.{Ready, tests-ready, ready-typed, next-below, stepped-ready, undone-ready, redone-ready}
 use Rattle.rules.proofs.Stays.{play-lasts, run-lasts}
 use Rattle.image.specs.Image.{imageOf, editionOf, machineOf, trailOf, Storable}
 use Rattle.image.proofs.ReadsBack.{comes-back}
@@ -41,6 +42,7 @@ ready-storable w h =
       sound = good-sound (w .machine) (h .good .machine);
       next = omega (arith, h .next, h .most);
       kept = omega (arith, h .limit, h .most);
+      ahead = omega (arith, h .limit, h .most);
     }
 
 -- what is written stands for what it is written of
@@ -75,10 +77,10 @@ ticked-storable : (w : World) → TypedMachine (w .machine) → tickRefusal w �
 unfolding tickRefusal ticked
 ticked-storable w t e =
     let first = passed (historyFits (w .history)) 8 _ e in
-    let room = and-eq-true-iff (leb 288 (length (w .history))) (leb (length (w .history)) 65536) .0 (first .0) in
+    let room = and-eq-true-iff (leb 292 (length (w .history))) (leb (length (w .history)) 65536) .0 (first .0) in
     let both = and-eq-true-iff (sound (w .machine)) (trailFits (w .trail) (w .history)) .0 ((passed (soundly w) 9 0 (first .1)) .0) in
     let r = places (w .history) in
-    let range = and-eq-true-iff (ltb (w .trail .next) r) (leb (w .trail .kept) r) .0 (both .1) in
+    let range = and-eq-true-iff (ltb (w .trail .next) r) (leb (w .trail .kept + w .trail .ahead) r) .0 (both .1) in
     let most : length (w .history) ≤ 65536 = leb-true _ _ (room .1) in
     record {
       typed = record {
@@ -93,7 +95,8 @@ ticked-storable w t e =
       };
       sound = both .0;
       next = omega (arith, next-below r (w .trail .next) (ltb-true _ _ (range .0)));
-      kept = omega (arith, grown-most r (w .trail) (leb-true _ _ (range .1)));
+      kept = by-test (λ (k : ℕ). k < 65536) (w .trail .kept) r (λ z. omega arith) (λ z. omega (arith, leb-true (w .trail .kept + w .trail .ahead) r (range .1)));
+      ahead = omega arith;
     }
 
 -- ---- the calls
@@ -127,7 +130,7 @@ module _ (img mem pic his : List ℕ) (lent : Lent img mem pic his) where
           ap (λ (w : World). worldOf img (w .memory) (w .picture) (w .history)) same ∙ sym same
 
   fresh-storable : (edition : Edition) → Storable (fresh edition) freshTrail
-  fresh-storable edition = record { typed = fresh-typed edition; sound = refl; next = omega arith; kept = omega arith }
+  fresh-storable edition = record { typed = fresh-typed edition; sound = refl; next = omega arith; kept = omega arith; ahead = omega arith }
 
   known-stands : (edition : Edition) (program : List ℕ) → let a = load edition program mem pic his in standing (shown true img a) ≡ a .world
   unfolding load
@@ -155,6 +158,11 @@ module _ (img mem pic his : List ℕ) (lent : Lent img mem pic his) where
       answered-stands (backRefusal here) (undone (lastRecord here) here)
       (λ e. ready-storable _ (undone-ready here (entered _ e) (lent .history) e))
 
+  forward-stands : standing (whole img (forward here)) ≡ (forward here) .world
+  unfolding forward forwardRefusal
+  forward-stands =
+      answered-stands (forwardRefusal here) (redone (actionAt (nextRecord here)) here) (λ e. ready-storable _ (redone-ready here (entered _ e) e))
+
   pub chains : Chains img mem pic his
   chains =
       record {
@@ -162,6 +170,7 @@ module _ (img mem pic his : List ℕ) (lent : Lent img mem pic his) where
         step = step-stands;
         tick = tick-stands;
         back = back-stands;
+        forward = forward-stands;
         run = λ ticks keys randoms.
             list-stands (runRefusal ticks keys randoms here) ((run ticks keys randoms here) .answer)
             (λ e. run-lasts ticks keys randoms here typed (lent .history) e .ready) (run-left ticks keys randoms here);

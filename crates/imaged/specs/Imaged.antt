@@ -11,7 +11,7 @@ use Rattle.rules.specs.Number.{pick, unless}
 use Rattle.rules.specs.Refusal.{numberOf}
 use Rattle.rules.specs.World.{World, Answer, world, sizesFit}
 use Rattle.rules.specs.Load.{freshWorld, load}
-use Rattle.rules.specs.Call.{step, tick, back}
+use Rattle.rules.specs.Call.{step, tick, back, forward}
 use Rattle.rules.specs.Run.{run, runRefusal, play, playRefusal}
 use Rattle.rules.specs.Typed.{Below}
 use Rattle.image.specs.Image.{imageSize, imageOf, editionOf, machineOf, trailOf}
@@ -89,6 +89,7 @@ pub record Chains (img mem pic his : List ℕ) : Type 0 where
   pub step : (keys random : ℕ) → let a = step keys random (worldOf img mem pic his) in standing (whole img a) ≡ a .world
   pub tick : let a = tick (worldOf img mem pic his) in standing (whole img a) ≡ a .world
   pub back : let a = back (worldOf img mem pic his) in standing (whole img a) ≡ a .world
+  pub forward : let a = forward (worldOf img mem pic his) in standing (whole img a) ≡ a .world
   pub run : (ticks keys randoms : List ℕ) → standing (ranOn ticks keys randoms img mem pic his)
       ≡ (run ticks keys randoms (worldOf img mem pic his)) .answer .world
   pub play : (moves keys randoms : List ℕ) → standing (playedOn moves keys randoms img mem pic his)

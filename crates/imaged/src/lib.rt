@@ -98,7 +98,11 @@ fn load_unknown(image: &mut [u8], memory: &[u8], picture: &[u8], history: &[u8])
     image::write(
         image,
         Machine::fresh(Edition::First),
-        Trail { next: 0, kept: 0 },
+        Trail {
+            next: 0,
+            kept: 0,
+            ahead: 0,
+        },
     );
     if judge::sizes_fit(memory, picture, history) {
         10
@@ -198,4 +202,17 @@ pub fn back(image: &mut [u8], memory: &mut [u8], picture: &mut [u8], history: &[
     let m = before.machine;
     let t = before.trail;
     after_call(image, chip8::back(m, t, memory, picture, history))
+}
+
+pub fn forward(image: &mut [u8], memory: &mut [u8], picture: &mut [u8], history: &mut [u8]) -> u32
+    requires { ⌜ length (now image) ≡ imageSize ⌝ }
+    ensures { λ r. ⌜ Leaves
+        (whole (now (image .entry))
+        (rules_call.forward (worldOf (now (image .entry)) (now (memory .entry)) (now (picture .entry)) (now (history .entry))))) r
+        (now (image .exit)) (now (memory .exit)) (now (picture .exit)) (now (history .exit)) ⌝ }
+{
+    let before = image::read(image);
+    let m = before.machine;
+    let t = before.trail;
+    after_call(image, chip8::forward(m, t, memory, picture, history))
 }

@@ -76,11 +76,15 @@ pub fn is_sound(m: Machine) -> bool
     clear_from(stack, depth) & held_sound(wait)
 }
 
+// Kept plus ahead is at most R: what is left beside the kept ones is at least what stands ahead, so that no sum can pass its type.
 pub fn trail_fits(t: Trail, history: &[u8]) -> bool
     ensures { λ r. ⌜ r ≡ fit.trailFits t (now (history .entry)) ⌝ }
 {
     let places = places(history);
-    (t.next < places) & (t.kept <= places)
+    if places < t.kept {
+        return false;
+    }
+    (t.next < places) & (t.ahead <= places - t.kept)
 }
 
 // It also tells what the types say of the state's numbers.

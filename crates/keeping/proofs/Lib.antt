@@ -1,2 +1,3 @@
 -- What is proved here besides the functions.
+pub mod Cleared
 pub mod Laid

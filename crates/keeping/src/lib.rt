@@ -3,19 +3,20 @@ ghost use mathlib.Core.Path.{_≡_};
 ghost use mathlib.Core.List.{List};
 ghost use Prim.Native.Nat.{ℕ, _+_, _-_, _*_, _≤_};
 ghost use lib.Dec.{eqb};
-ghost use lib.ListN.{length, getD};
+ghost use lib.ListN.{length, getD, replicate};
 ghost use Rattle.keeping.specs.Writable.{Writable};
 ghost use Rattle.rules.specs.Number.{pick};
 ghost use Rattle.rules.specs.Memory.{over};
 ghost use Rattle.rules.specs.State.{stackSize};
-ghost use Rattle.rules.specs.Record.{placeSize, atV, mark, start, count, fields, recordWith};
+ghost use Rattle.rules.specs.Record.{placeSize, atV, atOld, mark, start, count, fields, inputs, recordWith};
 ghost use Rattle.parts.specs.Whole.{whole};
 use parts::Core;
+use rules::Action;
 use rules::Change;
 use rules::Machine;
 
 // How many bytes a place has, and where each part of its record begins.
-pub const PLACE: usize = 288;
+pub const PLACE: usize = 292;
 
 pub const AT_MARK: usize = 0;
 
@@ -40,6 +41,12 @@ pub const AT_START: usize = 28;
 pub const AT_COUNT: usize = 30;
 
 pub const AT_OLD: usize = 32;
+
+pub const AT_KEYS: usize = 288;
+
+pub const AT_RANDOM: usize = 290;
+
+pub const AT_KIND: usize = 291;
 
 // ---- the parts of a record
 
@@ -109,6 +116,16 @@ fn fields_of(c: Core, stack: &[u16; Machine::STACK], change: Change) -> [u8; 14]
     ]
 }
 
+// What stands last: the inputs of a step and a 1, or four zeros for a tick.
+fn inputs_of(action: Action) -> [u8; 4]
+    ensures { λ r. ⌜ r ≡ inputs action ⌝ }
+{
+    match action {
+        Action::Step(keys, random) => [memory::high(keys), memory::low(keys), random, 1],
+        Action::Tick => [0; 4],
+    }
+}
+
 // ---- writing
 
 // The variables. They come by value, so that they can't lie where the record is written, and sixteen bytes are copied at once.
@@ -119,30 +136,53 @@ fn lay_variables(place: &mut [u8], v: [u8; 16])
     memory::lay(place, AT_V, &v);
 }
 
-// Fills a place. Zeros are laid first and the old bytes over them, so that the clearing has a fixed length. The variables come last:
-// to read sixteen bytes at once must wait for a byte among them that was just written.
+// So many zeros from a byte of the place on.
+fn zeros(place: &mut [u8], from: usize, count: usize)
+    requires { ⌜ (length (now place) ≡ placeSize) × (from + count ≤ placeSize) ⌝ }
+    ensures { λ _. ⌜ now (place .exit) ≡ over (now (place .entry)) from (replicate count 0) count ⌝ }
+{
+    memory::clear(&mut place[from..from + count], 0);
+}
+
+// Zeros between the fields and the inputs. The compiler lays sixteen at a time, and a quarter of them would reach over a line of the cache,
+// since no sixteen bytes of most places begin at a multiple of sixteen. So the middle ones begin `skew` bytes on, where they do.
+fn clear_old(place: &mut [u8], skew: usize)
+    requires { ⌜ (length (now place) ≡ placeSize) × (skew ≤ 16) ⌝ }
+    ensures { λ _. ⌜ now (place .exit) ≡ over (now (place .entry)) atOld (replicate 256 0) 256 ⌝ }
+{
+    zeros(place, AT_OLD, 16);
+    zeros(place, AT_OLD + skew, 240);
+    zeros(place, AT_OLD + 240, 16);
+}
+
+// Fills a place. Zeros are laid first and the old bytes over them, so that the clearing has a fixed length. The variables come last: to
+// read sixteen bytes at once must wait for a byte among them that was just written.
 fn write(
     place: &mut [u8],
+    skew: usize,
     c: Core,
     v: &[u8; 16],
     stack: &[u16; Machine::STACK],
     change: Change,
     old: &[u8],
+    action: Action,
 )
     requires { ⌜ Writable (whole c (now v) (now stack)) change (now old) ⌝ }
-    requires { ⌜ length (now place) ≡ placeSize ⌝ }
-    ensures { λ _. ⌜ now (place .exit) ≡ recordWith (whole c (now (v .entry)) (now (stack .entry))) change (now (old .entry)) ⌝ }
+    requires { ⌜ (length (now place) ≡ placeSize) × (skew ≤ 16) ⌝ }
+    ensures { λ _. ⌜ now (place .exit) ≡ recordWith (whole c (now (v .entry)) (now (stack .entry))) change (now (old .entry)) action ⌝ }
 {
     let mark = mark_of(change);
     let fields = fields_of(c, stack, change);
+    let inputs = inputs_of(action);
     memory::lay(place, AT_MARK, &mark);
     memory::lay(place, AT_I, &fields);
-    memory::clear(place, AT_OLD);
+    clear_old(place, skew);
     memory::lay(place, AT_OLD, old);
+    memory::lay(place, AT_KEYS, &inputs);
     lay_variables(place, *v);
 }
 
-// Writes the record of a machine and a change into the place `next` of a history. `old` are the bytes that are about to change.
+// Writes the record of a machine, a change and an action into the place `next` of a history. `old` are the bytes that are about to change.
 pub fn keep(
     history: &mut [u8],
     next: usize,
@@ -151,12 +191,24 @@ pub fn keep(
     stack: &[u16; Machine::STACK],
     change: Change,
     old: &[u8],
+    action: Action,
 )
     requires { ⌜ Writable (whole c (now v) (now stack)) change (now old) ⌝ }
     requires { ⌜ placeSize * next + placeSize ≤ length (now history) ⌝ }
     ensures { λ _. ⌜ now (history .exit) ≡ over (now (history .entry)) (placeSize * next)
-        (recordWith (whole c (now (v .entry)) (now (stack .entry))) change (now (old .entry))) placeSize ⌝ }
+        (recordWith (whole c (now (v .entry)) (now (stack .entry))) change (now (old .entry)) action) placeSize ⌝ }
 {
     let at = PLACE * next;
-    write(&mut history[at..at + PLACE], c, v, stack, change, old);
+    // From the old bytes of this place on, so many bytes lead to the next multiple of sixteen in the history.
+    let skew = 12 * next % 16;
+    write(
+        &mut history[at..at + PLACE],
+        skew,
+        c,
+        v,
+        stack,
+        change,
+        old,
+        action,
+    );
 }

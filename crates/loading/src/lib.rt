@@ -51,7 +51,11 @@ pub fn load(
         (r .machine) (r .trail) (now (memory .exit)) (now (picture .exit)) (now (history .exit)) ⌝ }
 {
     let machine = Machine::fresh(edition);
-    let trail = Trail { next: 0, kept: 0 };
+    let trail = Trail {
+        next: 0,
+        kept: 0,
+        ahead: 0,
+    };
     let outcome = judged(program, memory, picture, history);
     let Outcome::Done = outcome else {
         return Answer {

@@ -6,6 +6,7 @@ use native.Mathlib.Omega.{arith}
 use lib.ListN.{length, getD}
 use lib.Dec.{leb}
 use borrow.Author.Tests.{le-leb, lt-leb, eq-eqb, ne-eqb}
+use Rattle.rules.specs.declared.Action.the-variants.{Step}
 use Rattle.rules.specs.declared.Machine.{Machine}
 use Rattle.rules.specs.declared.Trail.{Trail}
 use Rattle.rules.specs.declared.Op.{Op}
@@ -16,10 +17,11 @@ use Rattle.rules.specs.declared.Refusal.the-variants.{PcPastEnd}
 use Rattle.rules.specs.declared.Outcome.the-variants.{Done, Refused}
 use Rattle.rules.specs.Number.{unless}
 use Rattle.rules.specs.Refusal.{number}
-use Rattle.rules.specs.Record.{old}
+use Rattle.rules.specs.Memory.{over}
+use Rattle.rules.specs.Record.{old, recordOf}
 use Rattle.rules.specs.Step.{refusalOf, changeOf, after}
 use Rattle.rules.specs.World.{World, boardOf, places}
-use Rattle.rules.specs.Call.{opAt, step, stepped, stepRefusal, written, grown}
+use Rattle.rules.specs.Call.{opAt, step, stepped, stepRefusal, grown}
 use Rattle.rules.specs.Dark.{darkOf, stepDark}
 use Rattle.rules.specs.Promise.{Gives}
 use Rattle.rules.proofs.Parts.{below-get}
@@ -92,7 +94,7 @@ module _ (w : World) (h : Ready w) where
 
   -- ---- what its parts ask
 
-  pub place-inside : 288 * w .trail .next + 288 ≤ length (w .history)
+  pub place-inside : 292 * w .trail .next + 292 ≤ length (w .history)
   place-inside = omega (arith, h .next)
 
   pub tickable : Tickable m (w .trail) (w .history)
@@ -100,7 +102,7 @@ module _ (w : World) (h : Ready w) where
       record {
         shallow = h .good .machine .calls .most;
         most = h .most;
-        range = record { next = h .next; kept = h .limit; few = omega (arith, h .most) };
+        range = record { next = h .next; kept = omega (arith, h .limit); few = omega (arith, h .most) };
       }
 
   module _ (op : Op) (e : op ≡ opAt (boardOf w)) (near : m .pc ≤ 4094) (allowed : refusalOf op m ≡ 0) where
@@ -136,7 +138,7 @@ module _ (w : World) (h : Ready w) where
     pub step-gives : (keys random : ℕ) (m′ : Machine) (t′ : Trail) (mem pic his : List ℕ)
         → Became (after op keys random m (w .memory) (w .picture)) m′ mem pic
         → t′ ≡ grown (places (w .history)) (w .trail)
-        → his ≡ written (changeOf op m) w
+        → his ≡ over (w .history) (292 * w .trail .next) (recordOf (changeOf op m) (Step keys random) (boardOf w)) 292
         → Gives (step keys random w) Done m′ t′ mem pic his
     unfolding step stepped
     step-gives keys random m′ t′ mem pic his b t k =

@@ -15,13 +15,14 @@ ghost use Rattle.rules.proofs.Undo.{Fits};
 ghost use Rattle.parts.specs.Whole.{whole};
 ghost use Rattle.moves.specs.Inner.{Tickable};
 use parts::Core;
+use rules::Action;
 use rules::Change;
 use rules::Machine;
 use rules::Outcome;
 use rules::Refusal;
 use rules::Trail;
 
-// What a tick hands back beside what is lent: what came of it, the core, and the history's two numbers.
+// What a tick hands back beside what is lent: what came of it, the core, and the history's numbers.
 pub struct Moved {
     pub outcome: Outcome,
     pub core: Core,
@@ -111,6 +112,7 @@ pub fn step(
         stack,
         change,
         old_of(change, memory, picture),
+        Action::Step(keys, random),
     );
     let acted = act::act(op, c, v, stack, memory, picture, keys, random);
     let core = acted.core;
@@ -139,8 +141,8 @@ pub fn tick(
         (whole (r .core) (now (v .entry)) (now (stack .entry))) (r .trail) memory picture (now (history .exit))) ⌝ }
 {
     let places = judge::places(history);
-    let next = trail.next;
-    keeping::keep(history, next, c, v, stack, Change::Nothing, b"");
+    let at = trail.next;
+    keeping::keep(history, at, c, v, stack, Change::Nothing, b"", Action::Tick);
     Moved {
         outcome: Outcome::Done,
         core: clock::tick(c),

@@ -70,7 +70,7 @@ pub fn held_byte(w: Wait) -> u8
 
 // ---- what a call answers
 
-// What a call hands back beside the buffers: what came of it, the state, and the history's two numbers.
+// What a call hands back beside the buffers: what came of it, the state, and the history's three numbers.
 pub struct Answer {
     pub outcome: Outcome,
     pub machine: Machine,
@@ -112,6 +112,7 @@ fn refusal_number(why: Refusal) -> u8
         Refusal::BufferLength => 9,
         Refusal::Unsound => 10,
         Refusal::Damaged => 11,
+        Refusal::NothingAhead => 12,
     }
 }
 

@@ -14,23 +14,24 @@ use Rattle.rules.specs.declared.Outcome.the-variants.{Refused}
 use Rattle.rules.specs.Refusal.{number}
 use Rattle.rules.specs.World.{World, Answer, world, boardOf, places}
 use Rattle.rules.specs.Run.{unrefused, listsFit, allMoves, movesFit, moveOf, movesOf, made, playFrom, play, playRefusal}
-use Rattle.rules.specs.Typed.{TypedBoard}
+use Rattle.rules.specs.Typed.{Below, TypedBoard}
 use Rattle.rules.specs.Past.{Start, Told, follow, first}
 use Rattle.rules.specs.Promise.{Gives}
 use Rattle.rules.proofs.Given.{Back, tests, handed, refused-some}
 use Rattle.rules.proofs.StepsBack.{steps-back}
+use Rattle.rules.proofs.RunsPlay.{plays-typed}
 use Rattle.running.proofs.Ticks.{gives-world}
 use Rattle.running.proofs.Entries.{SameLength, drop-next}
 
 -- ---- the bytes
 
-pub no-move : (l : List ℕ) (i : ℕ) → i < length l → 2 < getD l i 0 → allMoves (drop i l) ≡ false
+pub no-move : (l : List ℕ) (i : ℕ) → i < length l → 3 < getD l i 0 → allMoves (drop i l) ≡ false
 unfolding allMoves
-no-move l i h past = rw (drop-next l i h, lt-leb (getD l i 0) 2 past)
+no-move l i h past = rw (drop-next l i h, lt-leb (getD l i 0) 3 past)
 
-pub a-move : (l : List ℕ) (i : ℕ) → i < length l → getD l i 0 ≤ 2 → allMoves (drop i l) ≡ allMoves (drop (i + 1) l)
+pub a-move : (l : List ℕ) (i : ℕ) → i < length l → getD l i 0 ≤ 3 → allMoves (drop i l) ≡ allMoves (drop (i + 1) l)
 unfolding allMoves
-a-move l i h fits = rw (drop-next l i h, le-leb (getD l i 0) 2 fits)
+a-move l i h fits = rw (drop-next l i h, le-leb (getD l i 0) 3 fits)
 
 pub no-more : (l : List ℕ) (i : ℕ) → length l ≤ i → allMoves (drop i l) ≡ true
 unfolding allMoves
@@ -92,15 +93,16 @@ module _ (moves keys randoms : List ℕ) (w : World) where
         all,
         s .sound,
         lt-ltb (w .trail .next) (places (w .history)) (s .next),
-        le-leb (w .trail .kept) (places (w .history)) (omega (arith, s .empty)),
+        le-leb (w .trail .kept + w .trail .ahead) (places (w .history)) (omega (arith, s .kept, s .ahead)),
       )
 
   pub start-not-refused : (r : Refusal) → number (Refused r) ≡ tests w (movesFit moves keys randoms) → Start w → listsFit moves keys randoms ≡ true
       → allMoves moves ≡ true → ⊥
   start-not-refused r e s lists all = refused-some r (e ∙ start-admitted s lists all)
 
-  pub play-told : TypedBoard (boardOf w) → Start w → (m : Machine) (t : Trail) (mem pic his : List ℕ) (o : Outcome)
+  pub play-told : TypedBoard (boardOf w) → Below 65536 keys → Below 256 randoms → Start w → (m : Machine) (t : Trail) (mem pic his : List ℕ) (o : Outcome)
       → Gives (playFrom (movesOf moves keys randoms) (unrefused w)) o m t mem pic his
-      → Told (world m t mem pic his) (follow (places (w .history)) (movesOf moves keys randoms) w (first w))
-  play-told typed s m t mem pic his o g =
-      rw (gives-world (playFrom (movesOf moves keys randoms) (unrefused w)) o m t mem pic his g) (steps-back w typed s (movesOf moves keys randoms))
+      → let r = places (w .history) in Told r (world m t mem pic his) (follow r (movesOf moves keys randoms) w (first w))
+  play-told typed ks rs s m t mem pic his o g =
+      rw (gives-world (playFrom (movesOf moves keys randoms) (unrefused w)) o m t mem pic his g)
+      (steps-back w typed s (movesOf moves keys randoms) (plays-typed moves keys randoms ks rs))

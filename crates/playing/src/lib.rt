@@ -7,6 +7,7 @@ ghost use Rattle.rules.specs.Run as rule;
 ghost use Rattle.rules.specs.Past.{PlayTells};
 ghost use Rattle.rules.specs.Promise.{Gives};
 use parts::Answer;
+use rules::Action;
 use rules::Machine;
 use rules::Outcome;
 use rules::Trail;
@@ -17,7 +18,7 @@ fn all_moves(moves: &[u8]) -> bool
 {
     let mut i = 0;
     while i < moves.len() {
-        if moves[i] > 2 {
+        if moves[i] > 3 {
             return false;
         }
         i += 1;
@@ -41,19 +42,17 @@ fn make(
         (r .outcome) (r .machine) (r .trail) (now (memory .exit)) (now (picture .exit)) (now (history .exit)) ⌝ }
 {
     match step {
-        0 => {
-            let stepped = stepping::step(machine, trail, memory, picture, history, keys, random);
-            let outcome = stepped.outcome;
-            let next_machine = stepped.machine;
-            let next_trail = stepped.trail;
-            Answer {
-                outcome,
-                machine: next_machine,
-                trail: next_trail,
-            }
-        }
-        1 => stepping::tick(machine, trail, history),
-        _ => restoring::back(machine, trail, memory, picture, history),
+        0 => stepping::take(
+            Action::Step(keys, random),
+            machine,
+            trail,
+            memory,
+            picture,
+            history,
+        ),
+        1 => stepping::take(Action::Tick, machine, trail, memory, picture, history),
+        2 => restoring::back(machine, trail, memory, picture, history),
+        _ => repeating::forward(machine, trail, memory, picture, history),
     }
 }
 
@@ -98,8 +97,8 @@ fn make_all(
     last
 }
 
-// Makes a list of moves (0 a step, 1 a tick, 2 a step back), each on what the last one gave, refused ones included, and answers
-// what came of the last.
+// Makes a list of moves (0 a step, 1 a tick, 2 a step back, 3 a step forward), each on what the last one gave, refused ones included, and
+// answers what came of the last.
 pub fn play(
     machine: Machine,
     trail: Trail,

@@ -45,8 +45,8 @@ module _ (r : List ℕ) (m : Machine) where
 
 -- the part of the history that is lent is the last record
 pub last-lent : (w : World) (p n : ℕ) → n ≡ places (w .history) → p ≡ placeBefore n (w .trail .next)
-    → take (288 * p + 288 - 288 * p) (drop (288 * p) (w .history)) ≡ lastRecord w
-last-lent w p n e f = lent-part (288 * p) 288 (w .history) ∙ rw (f, e)
+    → take (292 * p + 292 - 292 * p) (drop (292 * p) (w .history)) ≡ lastRecord w
+last-lent w p n e f = lent-part (292 * p) 292 (w .history) ∙ rw (f, e)
 
 module _ (w : World) (h : Ready w) where
   left : backRefusal w ≡ unless (not (eqb (w .trail .kept) 0)) 7 (unless (not (damaged (lastRecord w) (w .machine .depth))) 11 0)

@@ -73,6 +73,7 @@ fn undo(
         trail: Trail {
             next: last,
             kept: trail.kept - 1,
+            ahead: trail.ahead + 1,
         },
     }
 }

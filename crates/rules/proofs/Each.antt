@@ -5,8 +5,9 @@ use Prim.Native.Nat.{ℕ, zero, suc, _+_}
 use lib.Dec.{eqb}
 use Rattle.rules.specs.World.{World, Answer, answered}
 use Rattle.rules.specs.Call.{step, stepRefusal, stepped, tick, tickRefusal, ticked}
-use Rattle.rules.specs.Call.{back, backRefusal, lastRecord, undone}
-use Rattle.rules.specs.Run.{Move, aStep, aTick, aBack, made, playFrom, tickedBy, runFrom, runRefusal, run, Ran}
+use Rattle.rules.specs.Call.{back, backRefusal, lastRecord, undone, forward, forwardRefusal, nextRecord, redone}
+use Rattle.rules.specs.Record.{actionAt}
+use Rattle.rules.specs.Run.{Move, aStep, aTick, aBack, aForward, made, playFrom, tickedBy, runFrom, runRefusal, run, Ran}
 use Rattle.rules.specs.Run.{movesOf, playRefusal, play, EachCall}
 use Rattle.rules.proofs.Choices.{choice, by-test}
 
@@ -14,6 +15,7 @@ pub record Lasts (P : World → Type 0) : Type 0 where
   pub step : (keys random : ℕ) (w : World) → stepRefusal w ≡ 0 → P w → P (stepped keys random w)
   pub tick : (w : World) → P w → P (ticked w)
   pub back : (w : World) → backRefusal w ≡ 0 → P w → P (undone (lastRecord w) w)
+  pub forward : (w : World) → forwardRefusal w ≡ 0 → P w → P (redone (actionAt (nextRecord w)) w)
 
 module _ (P : World → Type 0) (l : Lasts P) where
   -- the new world where nothing is refused, and else the world as it came
@@ -21,10 +23,11 @@ module _ (P : World → Type 0) (l : Lasts P) where
   answer-lasts refusal new w n h = by-test (λ (a : Answer). P (a .world)) refusal 0 n (λ ne. h)
 
   pub made-lasts : (m : Move) (w : World) → P w → P ((made m w) .world)
-  unfolding step tick back
+  unfolding step tick back forward
   made-lasts (aStep keys random) w h = answer-lasts (stepRefusal w) (stepped keys random w) w (λ e. l .step keys random w e h) h
   made-lasts aTick w h = answer-lasts (tickRefusal w) (ticked w) w (λ e. l .tick w h) h
   made-lasts aBack w h = answer-lasts (backRefusal w) (undone (lastRecord w) w) w (λ e. l .back w e h) h
+  made-lasts aForward w h = answer-lasts (forwardRefusal w) (redone (actionAt (nextRecord w)) w) w (λ e. l .forward w e h) h
 
   ticks-last : (n : ℕ) (w : World) → P w → P (tickedBy n w)
   ticks-last zero w h = h
@@ -52,6 +55,7 @@ module _ (P : World → Type 0) (l : Lasts P) where
         step = λ keys random. made-lasts (aStep keys random);
         tick = made-lasts aTick;
         back = made-lasts aBack;
+        forward = made-lasts aForward;
         run = λ ticks keys randoms w h. choice (λ (q : Ran). P (q .answer .world)) (eqb (runRefusal ticks keys randoms w) 0) (runs-last 0 ticks keys randoms w h) h;
         play = λ moves keys randoms w h. choice (λ (a : Answer). P (a .world)) (eqb (playRefusal moves keys randoms w) 0) (plays-last (movesOf moves keys randoms) _ h) h;
       }
@@ -65,6 +69,7 @@ each-from P l h =
       step = λ keys random w. each w .step keys random w (h w);
       tick = λ w. each w .tick w (h w);
       back = λ w. each w .back w (h w);
+      forward = λ w. each w .forward w (h w);
       run = λ ticks keys randoms w. each w .run ticks keys randoms w (h w);
       play = λ moves keys randoms w. each w .play moves keys randoms w (h w);
     }

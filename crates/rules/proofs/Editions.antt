@@ -5,17 +5,19 @@ use Prim.Native.Nat.{ℕ, _/_, _%_}
 use lib.Dec.{eqb}
 use borrow.Author.Tests.{eqb-true}
 use Rattle.rules.specs.declared.Edition.the-variants.{First, Second}
+use Rattle.rules.specs.declared.Action.the-variants.{Step, Tick}
 use Rattle.rules.specs.declared.Op.{Op}
 use Rattle.rules.specs.declared.Op.the-variants.{Unlisted}
 use Rattle.rules.specs.Number.{pick}
 use Rattle.rules.specs.State.{Chosen, chosen}
 use Rattle.rules.specs.Instruction.{sumOp, decode}
+use Rattle.rules.specs.Record.{actionAt}
 use Rattle.rules.specs.World.{Answer, boardOf}
 use Rattle.rules.specs.Load.{load, loadRefusal}
-use Rattle.rules.specs.Call.{stepped, ticked, undone}
+use Rattle.rules.specs.Call.{stepped, ticked, undone, redone, nextRecord}
 use Rattle.rules.specs.Editions.{sumBefore, isAdded, added, LoadChooses, ChosenKept, FirstAsBefore, SecondAdds}
 use Rattle.rules.proofs.Choices.{choice}
-use Rattle.rules.proofs.Still.{step-chosen}
+use Rattle.rules.proofs.Still.{action-chosen}
 use Rattle.rules.proofs.Each.{Lasts, each-from}
 
 pub load-chooses : LoadChooses
@@ -26,12 +28,13 @@ load-chooses edition program memory picture history =
 -- ---- kept
 
 chosen-lasts : (c : Chosen) → Lasts (λ w. chosen (w .machine) ≡ c)
-unfolding stepped ticked undone
+unfolding stepped ticked undone redone
 chosen-lasts c =
     record {
-      step = λ keys random w e h. step-chosen keys random (boardOf w) ∙ h;
-      tick = λ w h. h;
+      step = λ keys random w e h. action-chosen (Step keys random) (boardOf w) ∙ h;
+      tick = λ w h. action-chosen Tick (boardOf w) ∙ h;
       back = λ w e h. h;
+      forward = λ w e h. action-chosen (actionAt (nextRecord w)) (boardOf w) ∙ h;
     }
 
 pub chosen-kept : ChosenKept

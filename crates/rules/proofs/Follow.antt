@@ -12,6 +12,8 @@ use lib.Bits.{and-le-r, and-lt, or-lt, xor-lt}
 use borrow.Author.Tests.{ltb-true, leb-true, eqb-true, eqb-false, le-leb, ne-eqb}
 use Rattle.rules.specs.declared.Edition.{Edition}
 use Rattle.rules.specs.declared.Edition.the-variants.{First, Second}
+use Rattle.rules.specs.declared.Action.{Action}
+use Rattle.rules.specs.declared.Action.the-variants.{Step, Tick}
 use Rattle.rules.specs.declared.Machine.{Machine}
 use Rattle.rules.specs.declared.Timers.{Timers}
 use Rattle.rules.specs.declared.Wait.{Wait}
@@ -34,7 +36,7 @@ use Rattle.rules.specs.Step.{Board, refusalOf, changeOf, after, past, co
 use Rattle.rules.proofs.Choices.{choice, not-zero, passed}
 use Rattle.rules.proofs.Parts.{zeroes, drop-zeros, over-take, over-drop, part-length}
 use Rattle.rules.proofs.Parts.{below-get, below-set, below-append, below-take, below-drop, below-zeros, bytes-over}
-use Rattle.rules.specs.Call.{lowered, tickBoard}
+use Rattle.rules.specs.Call.{lowered, tickBoard, opAt, boardBy, changeBy, ownRefusal}
 use Rattle.rules.specs.Typed.{Below, none, more}
 use Rattle.rules.proofs.Good.{Bytes, GoodCalls, GoodTimers, GoodMachine, GoodBoard}
 use Rattle.rules.proofs.Drawn.{drawn-bytes, drawn-outside}
@@ -387,3 +389,12 @@ module _ (b : Board) (g : GoodBoard b) where
   tick-follows =
       let t = g .machine .timers in
       still b g _ (keep-timers same (lowered (m .timers)) (record { delay = omega arith; tone = omega arith }))
+
+  byte : (a : ℕ) → getD (b .memory) a 0 < 256
+  byte a = below-get (omega arith) (g .memory .below) a
+
+  pub action-follows : (a : Action) → ownRefusal a b ≡ 0 → Follows (changeBy a b) b (boardBy a b)
+  action-follows (Step keys random) e =
+      let (near, ok) = passed (leb (m .pc) 4094) 0 _ e in
+      step-follows (opAt b) keys random (decode-fits _ _ _ (byte (m .pc)) (byte (m .pc + 1))) (leb-true (m .pc) 4094 near) ok
+  action-follows Tick e = tick-follows

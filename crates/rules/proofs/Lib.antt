@@ -9,13 +9,15 @@ pub mod Restored
 pub mod Drawn
 pub mod Spots
 pub mod Follow
+pub mod Still
+pub mod Link
 pub mod Sound
 pub mod Zeros
 pub mod Ready
-pub mod Still
 pub mod Each
 pub mod Editions
 pub mod Twice
+pub mod Chain
 pub mod StepsBack
 pub mod Load
 pub mod OnlyOne

@@ -53,7 +53,7 @@ unfolding loadedMemory
 loaded-below program h =
     below-append (below-append (below-append digits-below (below-zeros 432 (omega arith))) h) (below-zeros (3584 - length program) (omega arith))
 
-loaded-starts : (edition : Edition) (program history : List ℕ) → Below 256 program → length program ≤ 3584 → 288 ≤ length history
+loaded-starts : (edition : Edition) (program history : List ℕ) → Below 256 program → length program ≤ 3584 → 292 ≤ length history
     → length history ≤ 65536 → TypedBoard (boardOf (loaded edition program history)) × Start (loaded edition program history)
 loaded-starts edition program history h fits least most =
     let long : length (zeroes (length history)) ≡ length history = length-replicate {A = ℕ} (length history) 0 in (
@@ -63,7 +63,8 @@ loaded-starts edition program history h fits least most =
             (rw long (and-both (le-leb _ _ least) (le-leb _ _ most)));
         sound = refl;
         next = rw long (omega arith);
-        empty = refl;
+        kept = refl;
+        ahead = refl;
       },
     )
 

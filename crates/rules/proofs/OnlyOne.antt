@@ -7,7 +7,7 @@ use Rattle.rules.specs.declared.Machine.{Machine}
 use Rattle.rules.specs.declared.Trail.{Trail}
 use Rattle.rules.specs.declared.Refusal.{Refusal}
 use Rattle.rules.specs.declared.Refusal.the-variants.{PcPastEnd, Unlisted, MachineCode, StackFull, StackEmpty, MemoryPastEnd}
-use Rattle.rules.specs.declared.Refusal.the-variants.{NothingKept, ProgramLength, BufferLength, Unsound, Damaged}
+use Rattle.rules.specs.declared.Refusal.the-variants.{NothingKept, ProgramLength, BufferLength, Unsound, Damaged, NothingAhead}
 use Rattle.rules.specs.declared.Outcome.{Outcome}
 use Rattle.rules.specs.declared.Outcome.the-variants.{Done, Refused}
 use Rattle.rules.specs.Refusal.{numberOf, number}
@@ -20,7 +20,7 @@ use Rattle.rules.specs.Promise.{Gives, GivesRun}
 refusals : List Refusal
 refusals =
     PcPastEnd ∷ Unlisted ∷ MachineCode ∷ StackFull ∷ StackEmpty ∷ MemoryPastEnd ∷ NothingKept ∷ ProgramLength ∷ BufferLength ∷ Unsound ∷ Damaged
-    ∷ []
+    ∷ NothingAhead ∷ []
 
 -- the outcome that a number names
 named : ℕ → Outcome
@@ -40,6 +40,7 @@ refused-named ProgramLength = refl
 refused-named BufferLength = refl
 refused-named Unsound = refl
 refused-named Damaged = refl
+refused-named NothingAhead = refl
 
 number-named : (o : Outcome) → named (number o) ≡ o
 unfolding named

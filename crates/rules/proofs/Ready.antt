@@ -1,36 +1,36 @@
 -- A world that passes the tests 9 and 10: the tests give it, and every accepted call keeps it, a step back onto any bytes too.
-use mathlib.Core.Path.{_≡_}
+use mathlib.Core.Path.{_≡_, refl, sym, _∙_}
 use mathlib.Core.Bool.{true, not, _&&_, and-eq-true-iff}
-use Prim.Native.Nat.{ℕ, zero, suc, _+_, _*_, _≤_, _<_}
+use Prim.Native.Nat.{ℕ, zero, suc, _+_, _-_, _*_, _≤_, _<_}
 use native.Mathlib.Omega.{arith}
-use lib.ListN.{getD, length}
+use lib.ListN.{length}
 use lib.Dec.{eqb, ltb, leb}
-use borrow.Author.Tests.{ltb-true, leb-true, eqb-true, not-true, le-leb, lt-ltb, eq-eqb}
-use Rattle.rules.specs.declared.Trail.{Trail}
-use Rattle.rules.specs.declared.Change.{Change}
-use Rattle.rules.specs.declared.Change.the-variants.{Nothing}
+use borrow.Author.Tests.{ltb-true, leb-true, eqb-true, eqb-false, not-true, le-leb, lt-ltb, eq-eqb}
+use Rattle.rules.specs.declared.Action.{Action}
+use Rattle.rules.specs.declared.Action.the-variants.{Step, Tick}
 use Rattle.rules.specs.State.{sound}
-use Rattle.rules.specs.Record.{recordOf, damaged}
-use Rattle.rules.specs.Step.{Board, refusalOf, changeOf}
-use Rattle.rules.specs.World.{World, Answer, boardOf, places, historyFits, buffersFit, trailFits, soundly}
-use Rattle.rules.specs.Call.{nextPlace, grown, written, acted, opAt, stepBoard, stepRefusal, stepped, step, tickBoard, ticked}
-use Rattle.rules.specs.Call.{placeBefore, lastRecord, backRefusal, undone, back}
+use Rattle.rules.specs.Record.{damaged, kindSound, actionAt}
+use Rattle.rules.specs.Step.{changeOf}
+use Rattle.rules.specs.World.{World, Answer, withAhead, boardOf, places, historyFits, buffersFit, trailFits, soundly}
+use Rattle.rules.specs.Call.{opAt, stepBoard, boardBy, changeBy, stepOwn, ownRefusal, nextPlace, recordBy, written, acted}
+use Rattle.rules.specs.Call.{stepRefusal, stepped, step, ticked, placeBefore, lastRecord, backRefusal, undone, back}
+use Rattle.rules.specs.Call.{nextRecord, forwardRefusal, redone, forward}
 use Rattle.rules.specs.Run.{tickedBy}
 use Rattle.rules.specs.Typed.{Below, TypedBoard}
 use Rattle.rules.proofs.Choices.{by-test, and-both, passed}
 use Rattle.rules.proofs.Good.{Bytes, GoodBoard}
-use Rattle.rules.proofs.Parts.{over-length, part-length, below-get, below-take, below-drop}
+use Rattle.rules.proofs.Parts.{over-length, part-length, below-take, below-drop}
 use Rattle.rules.proofs.Sound.{good-sound, sound-good}
 use Rattle.rules.proofs.Undo.{written-length, usable}
 use Rattle.rules.proofs.Restored.{machine-good, memory-good, picture-good}
-use Rattle.rules.proofs.Follow.{Follows, OpFits, decode-fits, step-follows, tick-follows}
+use Rattle.rules.proofs.Follow.{Follows, action-follows}
 
 pub record Ready (w : World) : Type 0 where
   pub good : GoodBoard (boardOf w)
-  pub least : 288 ≤ length (w .history)
+  pub least : 292 ≤ length (w .history)
   pub most : length (w .history) ≤ 65536
   pub next : w .trail .next < places (w .history)
-  pub limit : w .trail .kept ≤ places (w .history)
+  pub limit : w .trail .kept + w .trail .ahead ≤ places (w .history)
 
 -- ---- the tests
 
@@ -38,7 +38,7 @@ pub record Ready (w : World) : Type 0 where
 pub record Passed (w : World) : Type 0 where
   pub memory : length (w .memory) ≡ 4096
   pub picture : length (w .picture) ≡ 256
-  pub least : 288 ≤ length (w .history)
+  pub least : 292 ≤ length (w .history)
   pub most : length (w .history) ≤ 65536
 
 pub fits-passed : (w : World) → buffersFit w ≡ true → Passed w
@@ -46,7 +46,7 @@ fits-passed w e =
     let sizes = eqb (length (w .memory)) 4096 && eqb (length (w .picture)) 256 in
     let all = and-eq-true-iff sizes (historyFits (w .history)) .0 e in
     let both = and-eq-true-iff (eqb (length (w .memory)) 4096) (eqb (length (w .picture)) 256) .0 (all .0) in
-    let room = and-eq-true-iff (leb 288 (length (w .history))) (leb (length (w .history)) 65536) .0 (all .1) in
+    let room = and-eq-true-iff (leb 292 (length (w .history))) (leb (length (w .history)) 65536) .0 (all .1) in
     record {
       memory = eqb-true _ _ (both .0);
       picture = eqb-true _ _ (both .1);
@@ -55,7 +55,7 @@ fits-passed w e =
     }
 
 pub start-ready : (w : World) → TypedBoard (boardOf w) → buffersFit w ≡ true → sound (w .machine) ≡ true
-    → w .trail .next < places (w .history) → w .trail .kept ≤ places (w .history) → Ready w
+    → w .trail .next < places (w .history) → w .trail .kept + w .trail .ahead ≤ places (w .history) → Ready w
 start-ready w t fits s next limit =
     let p = fits-passed w fits in
     record {
@@ -73,7 +73,8 @@ start-ready w t fits s next limit =
 pub tests-ready : (w : World) → TypedBoard (boardOf w) → buffersFit w ≡ true → soundly w ≡ true → Ready w
 tests-ready w t fits s =
     let all = and-eq-true-iff (sound (w .machine)) (trailFits (w .trail) (w .history)) .0 s in
-    let both = and-eq-true-iff (ltb (w .trail .next) (places (w .history))) (leb (w .trail .kept) (places (w .history))) .0 (all .1) in
+    let most = leb (w .trail .kept + w .trail .ahead) (places (w .history)) in
+    let both = and-eq-true-iff (ltb (w .trail .next) (places (w .history))) most .0 (all .1) in
     start-ready w t fits (all .0) (ltb-true _ _ (both .0)) (leb-true _ _ (both .1))
 
 pub ready-fits : (w : World) → Ready w → buffersFit w ≡ true
@@ -84,7 +85,7 @@ ready-fits w h =
 pub ready-soundly : (w : World) → Ready w → soundly w ≡ true
 ready-soundly w h =
     and-both (good-sound (w .machine) (h .good .machine))
-    (and-both (lt-ltb (w .trail .next) (places (w .history)) (h .next)) (le-leb (w .trail .kept) (places (w .history)) (h .limit)))
+    (and-both (lt-ltb (w .trail .next) (places (w .history)) (h .next)) (le-leb (w .trail .kept + w .trail .ahead) (places (w .history)) (h .limit)))
 
 pub ready-typed : (w : World) → Ready w → TypedBoard (boardOf w)
 ready-typed w h =
@@ -109,49 +110,42 @@ ready-typed w h =
 pub next-below : (r n : ℕ) → n < r → nextPlace r n < r
 next-below r n h = by-test (λ (q : ℕ). q < r) (n + 1) r (λ e. omega arith) (λ e. omega arith)
 
-pub grown-most : (r : ℕ) (t : Trail) → t .kept ≤ r → grown r t .kept ≤ r
-grown-most r t h = by-test (λ (q : ℕ). q ≤ r) (t .kept) r (λ e. omega arith) (λ e. omega arith)
+module _ (w : World) (h : Ready w) (a : Action) (accepted : ownRefusal a (boardOf w) ≡ 0) where
+  pub acted-follows : Follows (changeBy a (boardOf w)) (boardOf w) (boardBy a (boardOf w))
+  acted-follows = action-follows (boardOf w) (h .good) a accepted
 
-module _ (w : World) (h : Ready w) (c : Change) (b : Board) (f : Follows c (boardOf w) b) where
-  pub record-sized : length (recordOf (w .machine) c (w .memory) (w .picture)) ≡ 288
-  record-sized = written-length c (boardOf w) (h .good) (f .undoable .fits)
+  pub record-sized : length (recordBy a (boardOf w)) ≡ 292
+  record-sized = written-length _ a (boardOf w) (h .good) (acted-follows .undoable .fits)
 
-  pub as-long : length (written c w) ≡ length (w .history)
-  as-long = over-length (w .history) _ (288 * w .trail .next) 288 (omega (arith, h .next)) record-sized
+  pub as-long : length (written a w) ≡ length (w .history)
+  as-long = over-length (w .history) _ (292 * w .trail .next) 292 (omega (arith, h .next)) record-sized
 
-  pub acted-ready : Ready (acted c b w)
-  acted-ready =
+  -- with nothing ahead, or one less than before
+  pub acted-ready : (n : ℕ) → n ≤ w .trail .ahead - 1 → Ready (withAhead n (acted a w))
+  acted-ready n few =
       record {
-        good = f .good;
+        good = acted-follows .good;
         least = rw as-long (h .least);
         most = rw as-long (h .most);
         next = rw as-long (next-below (places (w .history)) (w .trail .next) (h .next));
-        limit = rw as-long (grown-most (places (w .history)) (w .trail) (h .limit));
+        limit = rw as-long
+            (by-test (λ (q : ℕ). q + n ≤ places (w .history)) (w .trail .kept) (places (w .history)) (λ e. omega (arith, h .limit))
+            (λ e. omega (arith, h .limit)));
       }
 
 module _ (w : World) (h : Ready w) where
-  pub step-passed : stepRefusal w ≡ 0 → (w .machine .pc ≤ 4094) × (refusalOf (opAt (boardOf w)) (w .machine) ≡ 0)
+  -- what is left of a step's tests
+  pub step-own : stepRefusal w ≡ stepOwn (boardOf w)
   unfolding stepRefusal
-  step-passed e =
-      let second = passed (soundly w) 9 _ ((passed (buffersFit w) 8 _ e) .1) in
-      let third = passed (leb (w .machine .pc) 4094) 0 _ (second .1) in
-      (leb-true (w .machine .pc) 4094 (third .0), third .1)
+  step-own = rw (ready-fits w h, ready-soundly w h)
 
   pub stepped-follows : (keys random : ℕ) → stepRefusal w ≡ 0
       → Follows (changeOf (opAt (boardOf w)) (w .machine)) (boardOf w) (stepBoard keys random (boardOf w))
-  stepped-follows keys random e =
-      let (pc, ok) = step-passed e in
-      step-follows (boardOf w) (h .good) (opAt (boardOf w)) keys random fits pc ok
-    where
-      byte : (a : ℕ) → getD (w .memory) a 0 < 256
-      byte a = below-get (omega arith) (h .good .memory .below) a
-
-      fits : OpFits (opAt (boardOf w))
-      fits = decode-fits _ _ _ (byte (w .machine .pc)) (byte (w .machine .pc + 1))
+  stepped-follows keys random e = acted-follows w h (Step keys random) (sym step-own ∙ e)
 
   pub stepped-ready : (keys random : ℕ) → stepRefusal w ≡ 0 → Ready (stepped keys random w)
   unfolding stepped
-  stepped-ready keys random e = acted-ready w h _ _ (stepped-follows keys random e)
+  stepped-ready keys random e = acted-ready w h (Step keys random) (sym step-own ∙ e) 0 (omega arith)
 
   pub step-ready : (keys random : ℕ) → Ready ((step keys random w) .world)
   unfolding step
@@ -159,32 +153,33 @@ module _ (w : World) (h : Ready w) where
 
   pub ticked-ready : Ready (ticked w)
   unfolding ticked
-  ticked-ready = acted-ready w h Nothing (tickBoard (boardOf w)) (tick-follows (boardOf w) (h .good))
+  ticked-ready = acted-ready w h Tick refl 0 (omega arith)
 
 pub ticks-ready : (n : ℕ) (w : World) → Ready w → Ready (tickedBy n w)
 ticks-ready zero w h = h
 ticks-ready (suc n) w h = ticks-ready n (ticked w) (ticked-ready w h)
 
--- ---- a step back, whatever stands in the history
+-- ---- a step back and a step forward, whatever stands in the history
 
 pub before-below : (r n : ℕ) → n < r → placeBefore r n < r
 before-below r n h = by-test (λ (q : ℕ). q < r) n 0 (λ e. omega arith) (λ e. omega arith)
 
 module _ (w : World) (h : Ready w) where
-  back-intact : backRefusal w ≡ 0 → not (damaged (lastRecord w) (w .machine .depth)) ≡ true
+  back-passed : backRefusal w ≡ 0 → (not (eqb (w .trail .kept) 0) ≡ true) × (not (damaged (lastRecord w) (w .machine .depth)) ≡ true)
   unfolding backRefusal
-  back-intact e =
+  back-passed e =
       let third = passed (not (eqb (w .trail .kept) 0)) 6 _ (rw (ready-fits w h, ready-soundly w h) at e) in
-      (passed (not (damaged (lastRecord w) (w .machine .depth))) 10 0 (third .1)) .0
+      (third .0, (passed (not (damaged (lastRecord w) (w .machine .depth))) 10 0 (third .1)) .0)
 
   pub undone-ready : Below 256 (w .history) → backRefusal w ≡ 0 → Ready (undone (lastRecord w) w)
   unfolding undone
   undone-ready bytes e =
       let before = before-below (places (w .history)) (w .trail .next) (h .next) in
-      let at = 288 * placeBefore (places (w .history)) (w .trail .next) in
-      let place : Bytes 288 (lastRecord w) =
-      record { size = part-length (w .history) at 288 (omega arith); below = below-take (below-drop bytes at) 288 } in
-      let fine = usable (lastRecord w) (w .machine .depth) (not-true _ (back-intact e)) in
+      let at = 292 * placeBefore (places (w .history)) (w .trail .next) in
+      let (kept, intact) = back-passed e in
+      let place : Bytes 292 (lastRecord w) =
+      record { size = part-length (w .history) at 292 (omega arith); below = below-take (below-drop bytes at) 292 } in
+      let fine = usable (lastRecord w) (w .machine .depth) (not-true _ intact) in
       record {
         good = record {
           machine = machine-good (lastRecord w) place fine (w .machine) (h .good .machine);
@@ -194,9 +189,24 @@ module _ (w : World) (h : Ready w) where
         least = h .least;
         most = h .most;
         next = before;
-        limit = omega (arith, h .limit);
+        limit = omega (arith, h .limit, eqb-false (w .trail .kept) 0 (not-true _ kept));
       }
 
   pub back-ready : Below 256 (w .history) → Ready ((back w) .world)
   unfolding back
   back-ready bytes = by-test (λ (a : Answer). Ready (a .world)) (backRefusal w) 0 (undone-ready bytes) (λ e. h)
+
+  -- an accepted forward makes an action that is accepted
+  forward-own : forwardRefusal w ≡ 0 → ownRefusal (actionAt (nextRecord w)) (boardOf w) ≡ 0
+  unfolding forwardRefusal
+  forward-own e =
+      let third = passed (not (eqb (w .trail .ahead) 0)) 11 _ (rw (ready-fits w h, ready-soundly w h) at e) in
+      (passed (kindSound (nextRecord w)) 10 _ (third .1)) .1
+
+  pub redone-ready : forwardRefusal w ≡ 0 → Ready (redone (actionAt (nextRecord w)) w)
+  unfolding redone
+  redone-ready e = acted-ready w h (actionAt (nextRecord w)) (forward-own e) (w .trail .ahead - 1) (omega arith)
+
+  pub forward-ready : Ready ((forward w) .world)
+  unfolding forward
+  forward-ready = by-test (λ (a : Answer). Ready (a .world)) (forwardRefusal w) 0 redone-ready (λ e. h)

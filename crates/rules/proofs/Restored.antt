@@ -13,14 +13,14 @@ use Rattle.rules.proofs.Good.{Bytes, GoodCalls, GoodMachine}
 use Rattle.rules.proofs.Parts.{zeroes, part-length, below-get, below-set, below-append, below-take, below-drop, below-zeros, bytes-over}
 use Rattle.rules.proofs.Undo.{Fits, Usable}
 
-module _ (r : List ℕ) (place : Bytes 288 r) (u : Usable r) where
+module _ (r : List ℕ) (place : Bytes 292 r) (u : Usable r) where
   byte : (k : ℕ) → byteAt r k < 256
   byte k = below-get (omega arith) (place .below) k
 
   two-bytes : (k : ℕ) → wordAt r k < 65536
   two-bytes k = omega (arith, byte k, byte (k + 1))
 
-  piece : (s n : ℕ) → s + n ≤ 288 → Bytes n (part r s n)
+  piece : (s n : ℕ) → s + n ≤ 292 → Bytes n (part r s n)
   piece s n h = record { size = part-length r s n (omega (arith, place .size)); below = below-take (below-drop (place .below) s) n }
 
   calls-good : (stack : List ℕ) (depth : ℕ) → GoodCalls stack depth → GoodCalls (stackAt r stack) (byteAt r 22)

@@ -1,4 +1,4 @@
--- The proof that a run gives what a play of its ticks and steps gives (Past): no tick of it is refused.
+-- The proof that a run gives what a play of its ticks and steps gives (Past), and that these are typed: no tick of it is refused.
 use mathlib.Core.Path.{_≡_, refl, sym, ap, _∙_}
 use mathlib.Core.Bool.{Bool, true, false}
 use mathlib.Core.List.{List, [], _∷_}
@@ -8,13 +8,14 @@ use borrow.Author.Tests.{le-leb, eqb-true, eq-eqb}
 use Rattle.rules.specs.Number.{pick}
 use Rattle.rules.specs.World.{World, Answer}
 use Rattle.rules.specs.Call.{step, tick, ticked, tickRefusal}
-use Rattle.rules.specs.Run.{Move, aStep, playFrom, unrefused, tickedBy, runFrom, runRefusal, run, listsFit, Ran}
-use Rattle.rules.specs.Past.{ticksThen, movesRun, RunsPlay}
-use Rattle.rules.proofs.Choices.{and-both}
+use Rattle.rules.specs.Run.{Move, aStep, playFrom, unrefused, tickedBy, runFrom, runRefusal, run, listsFit, Ran, movesOf}
+use Rattle.rules.specs.Typed.{Below, more, TypedMove, TypedMoves}
+use Rattle.rules.specs.Past.{ticksThen, movesRun, RunsPlay, RunsTyped}
+use Rattle.rules.proofs.Choices.{choice, and-both}
 use Rattle.rules.proofs.Ready.{Ready, ready-soundly, step-ready, ticked-ready, ticks-ready}
 use Rattle.rules.proofs.Given.{tested-ready, answered-done}
 
-tick-done : (w : World) → Ready w → tick w ≡ unrefused (ticked w)
+pub tick-done : (w : World) → Ready w → tick w ≡ unrefused (ticked w)
 unfolding tick tickRefusal
 tick-done w h =
     answered-done (tickRefusal w) (ticked w) w (rw (and-both (le-leb _ _ (h .least)) (le-leb _ _ (h .most)), ready-soundly w h))
@@ -54,3 +55,28 @@ pub runs-play : RunsPlay
 unfolding run runRefusal
 runs-play ticks keys randoms w typed e =
     rw (eq-eqb (runRefusal ticks keys randoms w) 0 e) (plays 0 ticks keys randoms w (tested-ready w (listsFit ticks keys randoms) typed e))
+
+-- ---- the moves are typed where the lists are
+
+ticks-typed : (n : ℕ) (ms : List Move) → TypedMoves ms → TypedMoves (ticksThen n ms)
+ticks-typed zero ms t = t
+ticks-typed (suc n) ms t = (tt, ticks-typed n ms t)
+
+pub runs-typed : RunsTyped
+unfolding movesRun
+runs-typed [] ks rs w keys randoms = tt
+runs-typed (t ∷ ts) [] rs w keys randoms = tt
+runs-typed (t ∷ ts) (k ∷ ks) [] w keys randoms = tt
+runs-typed (t ∷ ts) (k ∷ ks) (r ∷ rs) w (more key keys) (more random randoms) =
+    let a = step k r (tickedBy t w) in
+    ticks-typed t _ ((key, random), choice TypedMoves (eqb (a .refusal) 0) (runs-typed ts ks rs (a .world) keys randoms) tt)
+
+pub plays-typed : (moves keys randoms : List ℕ) → Below 65536 keys → Below 256 randoms → TypedMoves (movesOf moves keys randoms)
+unfolding movesOf
+plays-typed [] ks rs keys randoms = tt
+plays-typed (b ∷ bs) [] rs keys randoms = tt
+plays-typed (b ∷ bs) (k ∷ ks) [] keys randoms = tt
+plays-typed (b ∷ bs) (k ∷ ks) (r ∷ rs) (more key keys) (more random randoms) = (
+  choice TypedMove (eqb b 0) (key, random) (choice TypedMove (eqb b 1) tt (choice TypedMove (eqb b 2) tt tt)),
+  plays-typed bs ks rs keys randoms,
+)

@@ -3,17 +3,18 @@ use mathlib.Core.Path.{_≡_}
 use mathlib.Core.List.{List}
 use Prim.Native.Nat.{ℕ, _*_}
 use borrow.Author.Tests.{eq-eqb}
+use Rattle.rules.specs.declared.Action.{Action}
+use Rattle.rules.specs.declared.Action.the-variants.{Step, Tick}
 use Rattle.rules.specs.declared.Change.{Change}
 use Rattle.rules.specs.declared.Change.the-variants.{Nothing, InMemory, InPicture}
-use Rattle.rules.specs.Record.{old}
-use Rattle.rules.specs.Step.{changeOf}
+use Rattle.rules.specs.Record.{old, actionAt}
 use Rattle.rules.specs.World.{World, boardOf}
-use Rattle.rules.specs.Call.{written, opAt, stepped, ticked, undone}
+use Rattle.rules.specs.Call.{changeBy, written, stepped, ticked, undone, nextRecord, redone}
 use Rattle.rules.specs.Run.{listsFit, movesFit, movesOf, unrefused, playRefusal, play, runRefusal, run}
 use Rattle.rules.specs.Typed.{Below, none, TypedBoard}
 use Rattle.rules.proofs.Parts.{below-take, below-drop, below-over}
 use Rattle.rules.proofs.Back.{record-bytes}
-use Rattle.rules.proofs.Ready.{Ready, stepped-ready, ticked-ready, undone-ready}
+use Rattle.rules.proofs.Ready.{Ready, stepped-ready, ticked-ready, undone-ready, redone-ready}
 use Rattle.rules.proofs.Given.{tested-ready}
 use Rattle.rules.proofs.Each.{Lasts, plays-last, runs-last}
 
@@ -29,22 +30,27 @@ old-bytes (InMemory s n) m p = below-take (below-drop m s) n
 old-bytes (InPicture s n) m p = below-take (below-drop p s) n
 
 module _ (w : World) (h : Lasting w) where
-  written-bytes : (c : Change) → Below 256 (written c w)
-  written-bytes c =
+  written-bytes : (a : Action) → Below 256 (written a w)
+  written-bytes a =
       let g = h .ready .good in
-      below-over (h .bytes) (record-bytes (w .machine) c _ (g .machine) (old-bytes c (g .memory .below) (g .picture .below)))
-      (288 * w .trail .next) 288
+      let c = changeBy a (boardOf w) in
+      below-over (h .bytes) (record-bytes (w .machine) c _ a (g .machine) (old-bytes c (g .memory .below) (g .picture .below)))
+      (292 * w .trail .next) 292
 
 lasting : Lasts Lasting
-unfolding stepped ticked undone
+unfolding stepped ticked undone redone
 lasting =
     record {
       step = λ keys random w e h. record {
         ready = stepped-ready w (h .ready) keys random e;
-        bytes = written-bytes w h (changeOf (opAt (boardOf w)) (w .machine));
+        bytes = written-bytes w h (Step keys random);
       };
-      tick = λ w h. record { ready = ticked-ready w (h .ready); bytes = written-bytes w h Nothing };
+      tick = λ w h. record { ready = ticked-ready w (h .ready); bytes = written-bytes w h Tick };
       back = λ w e h. record { ready = undone-ready w (h .ready) (h .bytes) e; bytes = h .bytes };
+      forward = λ w e h. record {
+        ready = redone-ready w (h .ready) e;
+        bytes = written-bytes w h (actionAt (nextRecord w));
+      };
     }
 
 -- ---- the calls on lists, from a world that passes the first two tests

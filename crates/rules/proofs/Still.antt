@@ -3,6 +3,8 @@ use mathlib.Core.Path.{_≡_, refl}
 use mathlib.Core.List.{List}
 use Prim.Native.Nat.{ℕ}
 use lib.Dec.{eqb}
+use Rattle.rules.specs.declared.Action.{Action}
+use Rattle.rules.specs.declared.Action.the-variants.{Step, Tick}
 use Rattle.rules.specs.declared.Machine.{Machine}
 use Rattle.rules.specs.declared.Wait.{Wait}
 use Rattle.rules.specs.declared.Wait.the-variants.{Idle, Held}
@@ -15,7 +17,7 @@ use Rattle.rules.specs.declared.Simple.the-variants.{Index, AddIndex, Di
 use Rattle.rules.specs.State.{chosen}
 use Rattle.rules.specs.Registers.{simple, awaited, down}
 use Rattle.rules.specs.Step.{Board, after}
-use Rattle.rules.specs.Call.{opAt, stepBoard}
+use Rattle.rules.specs.Call.{opAt, boardBy}
 use Rattle.rules.proofs.Choices.{choice}
 
 module _ (keys random : ℕ) (m : Machine) where
@@ -66,5 +68,6 @@ module _ (keys random : ℕ) (m : Machine) where
     after-chosen Unlisted = refl
     after-chosen MachineCode = refl
 
-pub step-chosen : (keys random : ℕ) (b : Board) → chosen ((stepBoard keys random b) .machine) ≡ chosen (b .machine)
-step-chosen keys random b = after-chosen keys random (b .machine) (b .memory) (b .picture) (opAt b)
+pub action-chosen : (a : Action) (b : Board) → chosen ((boardBy a b) .machine) ≡ chosen (b .machine)
+action-chosen (Step keys random) b = after-chosen keys random (b .machine) (b .memory) (b .picture) (opAt b)
+action-chosen Tick b = refl

@@ -1,4 +1,4 @@
--- One action and its undoing: the record that is written beside an action gives back what stood before it.
+-- One action and its undoing: the record that is written beside an action gives back what stood before it, and the action itself.
 use mathlib.Core.Path.{_≡_, refl, sym, ap}
 use mathlib.Core.Bool.{Bool, true, false, not, _&&_, _||_, and-eq-true-iff, or-false}
 use mathlib.Core.List.{List, _++_}
@@ -8,6 +8,7 @@ use lib.ListN.{getD, set, take, drop, length, take-append-drop}
 use lib.Seq.{take-suc, take-suc-set}
 use lib.Dec.{eqb, leb}
 use borrow.Author.Tests.{leb-true, le-leb, ne-eqb, not-false}
+use Rattle.rules.specs.declared.Action.{Action}
 use Rattle.rules.specs.declared.Wait.{Wait}
 use Rattle.rules.specs.declared.Wait.the-variants.{Idle, Held}
 use Rattle.rules.specs.declared.Machine.{Machine}
@@ -17,7 +18,7 @@ use Rattle.rules.specs.Number.{pick}
 use Rattle.rules.specs.State.{chosen, heldSound}
 use Rattle.rules.specs.Memory.{part}
 use Rattle.rules.specs.Record.{start, count, allowed, old, heldByte, lastReturn, recordOf, byteAt, wordAt, stackAt, waitAt}
-use Rattle.rules.specs.Record.{known, changeSound, depthSound, keySound, damaged, machineAt, memoryAt, pictureAt, changeAt}
+use Rattle.rules.specs.Record.{known, changeSound, depthSound, keySound, kindSound, damaged, machineAt, memoryAt, pictureAt, changeAt}
 use Rattle.rules.specs.Step.{Board}
 use Rattle.rules.proofs.Good.{GoodCalls, GoodBoard}
 use Rattle.rules.proofs.Choices.{and-both}
@@ -124,19 +125,16 @@ picture-back r (InPicture s n) b b′ o e = rw e (put-back (b′ .picture) (b .p
 
 -- ---- UNDO
 
-abbrev recordFor : Change → Board → List ℕ
-recordFor c b = recordOf (b .machine) c (b .memory) (b .picture)
+module _ (c : Change) (a : Action) (b : Board) (g : GoodBoard b) (fits : Fits c) where
+  pub written-length : length (recordOf c a b) ≡ 292
+  written-length = record-length (b .machine) c _ a (g .machine .v .size) (old-length c b g fits) ((fits-start c fits) .1)
 
-module _ (c : Change) (b : Board) (g : GoodBoard b) (fits : Fits c) where
-  pub written-length : length (recordFor c b) ≡ 288
-  written-length = record-length (b .machine) c _ (g .machine .v .size) (old-length c b g fits) ((fits-start c fits) .1)
+  pub written-reads : Reads (recordOf c a b) (b .machine) c (old c (b .memory) (b .picture)) a
+  written-reads = let (s, n) = fits-start c fits in reads (b .machine) c _ a (g .machine) s n (old-length c b g fits)
 
-  written-reads : Reads (recordFor c b) (b .machine) c (old c (b .memory) (b .picture))
-  written-reads = let (s, n) = fits-start c fits in reads (b .machine) c _ (g .machine) s n (old-length c b g fits)
-
-pub undo : (c : Change) (b b′ : Board) → GoodBoard b → GoodBoard b′ → Undoable c b b′ → chosen (b′ .machine) ≡ chosen (b .machine)
-    → Restores (recordFor c b) b′ b
-undo c b b′ g g′ u kept =
+pub undo : (c : Change) (a : Action) (b b′ : Board) → GoodBoard b → GoodBoard b′ → Undoable c b b′
+    → chosen (b′ .machine) ≡ chosen (b .machine) → Restores (recordOf c a b) b′ b
+undo c a b b′ g g′ u kept =
     record {
       machine = λ i. record {
         v = read .v i;
@@ -150,17 +148,18 @@ undo c b b′ g g′ u kept =
       };
       memory = rw (read .change) (memory-back r c b b′ (u .only) (read .bytes));
       picture = rw (read .change) (picture-back r c b b′ (u .only) (read .bytes));
-      intact = ap not (and-both (and-both change-sound depth-sound) (rw (read .held) (key-sound (m .wait) (g .machine .wait))));
+      intact = ap not
+          (and-both (and-both (and-both change-sound depth-sound) (rw (read .held) (key-sound (m .wait) (g .machine .wait)))) (read .kind));
     }
   where
     m : Machine
     m = b .machine
 
     r : List ℕ
-    r = recordFor c b
+    r = recordOf c a b
 
-    read : Reads r m c (old c (b .memory) (b .picture))
-    read = written-reads c b g (u .fits)
+    read : Reads r m c (old c (b .memory) (b .picture)) a
+    read = written-reads c a b g (u .fits)
 
     stack : stackAt r (b′ .machine .stack) ≡ m .stack
     stack = rw (read .depth, read .last)
@@ -206,7 +205,8 @@ held-sound k false e = rw or-false at e
 
 pub usable : (r : List ℕ) (present : ℕ) → damaged r present ≡ false → Usable r
 usable r p e =
-    let all = and-eq-true-iff (changeSound r && depthSound r p) (keySound r) .0 (not-false _ e) in
+    let whole = and-eq-true-iff (changeSound r && depthSound r p && keySound r) (kindSound r) .0 (not-false _ e) in
+    let all = and-eq-true-iff (changeSound r && depthSound r p) (keySound r) .0 (whole .0) in
     let both = and-eq-true-iff (changeSound r) (depthSound r p) .0 (all .0) in
     let d = byteAt r 22 in
     record {

@@ -45,7 +45,7 @@ LoadChooses =
     (edition : Edition) (program memory picture history : List ℕ)
     → (load edition program memory picture history) .world .machine .edition ≡ edition
 
--- a step, a tick, a step back, a run and a play leave it
+-- a step, a tick, a step back, a step forward, a run and a play leave it
 abbrev pub ChosenKept : Type 0
 ChosenKept = EachCall KeepsChosen
 

@@ -38,7 +38,7 @@ loadedMemory program = digits ++ replicate (startAddress - 80) 0 ++ program ++ r
 
 -- what every load hands back, accepted or not, beside the buffers
 abbrev pub freshTrail : Trail
-freshTrail = record { next = 0; kept = 0 }
+freshTrail = record { next = 0; kept = 0; ahead = 0 }
 
 abbrev pub freshWorld : Edition → List ℕ → List ℕ → List ℕ → World
 freshWorld edition memory picture history = world (fresh edition) freshTrail memory picture history

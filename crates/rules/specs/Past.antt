@@ -1,73 +1,102 @@
--- Demand 3, the steps back: whatever is played, the world is the last of a plain list of boards, and a step back is refused
--- exactly where nothing is kept.
+-- Demand 3, the steps back and forward: whatever is played, the world is the board at the finger of a plain list of boards; a step back
+-- is refused exactly where nothing is kept, and a step forward exactly where nothing is ahead.
 use mathlib.Core.Path.{_≡_}
 use mathlib.Core.Bool.{true}
 use mathlib.Core.List.{List, [], _∷_}
-use Prim.Native.Nat.{ℕ, zero, suc, _+_, _-_, _<_, min}
+use Prim.Native.Nat.{ℕ, zero, suc, _+_, _-_, _≤_, _<_, min}
+use lib.ListN.{length, getD, drop}
 use lib.Dec.{eqb}
 use Rattle.rules.specs.declared.Edition.{Edition}
-use Rattle.rules.specs.declared.Refusal.the-variants.{NothingKept}
+use Rattle.rules.specs.declared.Refusal.the-variants.{NothingKept, NothingAhead}
 use Rattle.rules.specs.Number.{pick}
 use Rattle.rules.specs.Refusal.{numberOf}
 use Rattle.rules.specs.State.{sound}
 use Rattle.rules.specs.Step.{Board}
 use Rattle.rules.specs.World.{World, boardOf, places, buffersFit}
 use Rattle.rules.specs.Load.{load}
-use Rattle.rules.specs.Call.{step, stepBoard, tickBoard, back}
-use Rattle.rules.specs.Run.{Move, aStep, aTick, aBack, made, movesOf, listsFit, allMoves, playFrom, unrefused}
+use Rattle.rules.specs.Call.{step, stepBoard, tickBoard, back, forward}
+use Rattle.rules.specs.Run.{Move, aStep, aTick, aBack, aForward, made, movesOf, listsFit, allMoves, playFrom, unrefused}
 use Rattle.rules.specs.Run.{tickedBy, runRefusal, run}
-use Rattle.rules.specs.Typed.{Below, TypedBoard}
+use Rattle.rules.specs.Typed.{Below, TypedBoard, TypedMoves}
 
--- ---- the plain list of boards, the last one first, and how many steps back are kept, at most r
+-- ---- the plain list of boards with its finger, and the two numbers that go with it
 
+-- the board at the finger, those below it, the one just below first, and those above it, the one just above first
 pub record Past : Type 0 where
-  pub boards : List Board
+  pub finger : Board
+  pub below : List Board
+  pub above : List Board
   pub kept : ℕ
+  pub ahead : ℕ
 
-abbrev pub added : (Board → Board) → List Board → List Board
-added f [] = []
-added f (b ∷ bs) = f b ∷ b ∷ bs
+-- a new action strikes what stands above the finger and adds its board there, with the finger on it
+abbrev pub added : ℕ → (Board → Board) → Past → Past
+added r f p = record { finger = f (p .finger); below = p .finger ∷ p .below; above = []; kept = min r (p .kept + 1); ahead = 0 }
 
-abbrev pub struck : List Board → List Board
-struck [] = []
-struck (b ∷ bs) = bs
+-- the finger moves down to the first board below it, and nothing is struck
+abbrev pub movedDown : Past → Past
+movedDown p =
+    record {
+      finger = getD (p .below) 0 (p .finger);
+      below = drop 1 (p .below);
+      above = p .finger ∷ p .above;
+      kept = p .kept - 1;
+      ahead = p .ahead + 1;
+    }
 
--- an accepted step or tick adds the board that the rules define, and an accepted step back strikes the last
+-- the finger moves up to the first board above it, and nothing is struck
+abbrev pub movedUp : ℕ → Past → Past
+movedUp r p =
+    record {
+      finger = getD (p .above) 0 (p .finger);
+      below = p .finger ∷ p .below;
+      above = drop 1 (p .above);
+      kept = min r (p .kept + 1);
+      ahead = p .ahead - 1;
+    }
+
+-- what an accepted move does to the list; a step or a tick adds the board that the rules define, and kept rises to at most r
 abbrev pub noted : ℕ → Move → Past → Past
-noted r (aStep keys random) p = record { boards = added (stepBoard keys random) (p .boards); kept = min r (p .kept + 1) }
-noted r aTick p = record { boards = added tickBoard (p .boards); kept = min r (p .kept + 1) }
-noted r aBack p = record { boards = struck (p .boards); kept = p .kept - 1 }
+noted r (aStep keys random) p = added r (stepBoard keys random) p
+noted r aTick p = added r tickBoard p
+noted r aBack p = movedDown p
+noted r aForward p = movedUp r p
 
 -- beside each move: a refused one notes nothing
 abbrev pub follow : ℕ → List Move → World → Past → Past
 follow r [] w p = p
 follow r (m ∷ ms) w p = let a = made m w in follow r ms (a .world) (pick (eqb (a .refusal) 0) (noted r m p) p)
 
--- at first the one board, and nothing kept
+-- at first the one board with the finger on it, nothing kept and nothing ahead
 abbrev pub first : World → Past
-first w = record { boards = boardOf w ∷ []; kept = 0 }
+first w = record { finger = boardOf w; below = []; above = []; kept = 0; ahead = 0 }
 
 -- ---- where it starts, and what is told of the world after any moves
 
--- a sound state, buffers of the right sizes, and an empty history
+-- a sound state, buffers of the right sizes, and an empty history: kept 0 and ahead 0
 pub record Start (w : World) : Type 0 where
   pub fits : buffersFit w ≡ true
   pub sound : sound (w .machine) ≡ true
   pub next : w .trail .next < places (w .history)
-  pub empty : w .trail .kept ≡ 0
+  pub kept : w .trail .kept ≡ 0
+  pub ahead : w .trail .ahead ≡ 0
 
--- the board is the last of the list, as many steps back are kept, and back is refused, by 7, exactly where none is
-pub record Told (w : World) (p : Past) : Type 0 where
-  pub earlier : List Board
-  pub last : p .boards ≡ boardOf w ∷ earlier
+-- the board is the one at the finger; kept and ahead are the list's, with as many boards above the finger, and together at most r;
+-- back is refused, by 7, exactly where kept is 0, and forward, by 12, exactly where ahead is 0
+pub record Told (r : ℕ) (w : World) (p : Past) : Type 0 where
+  pub finger : boardOf w ≡ p .finger
   pub kept : w .trail .kept ≡ p .kept
-  pub refused : (back w) .refusal ≡ pick (eqb (w .trail .kept) 0) (numberOf NothingKept) 0
+  pub ahead : w .trail .ahead ≡ p .ahead
+  pub above : w .trail .ahead ≡ length (p .above)
+  pub most : w .trail .kept + w .trail .ahead ≤ r
+  pub back : (back w) .refusal ≡ pick (eqb (w .trail .kept) 0) (numberOf NothingKept) 0
+  pub forward : (forward w) .refusal ≡ pick (eqb (w .trail .ahead) 0) (numberOf NothingAhead) 0
 
 -- what a play promises of the world w′ that it leaves, where it starts from w with lists that fit
 abbrev pub PlayTells : List ℕ → List ℕ → List ℕ → World → World → Type 0
 PlayTells moves keys randoms w w′ =
     Start w → listsFit moves keys randoms ≡ true → allMoves moves ≡ true
-    → Told w′ (follow (places (w .history)) (movesOf moves keys randoms) w (first w))
+    → let r = places (w .history) in Told r w′ (follow r (movesOf moves keys randoms) w (first w))
 
 -- ---- the moves of a run: for each entry its ticks, then its step, up to and including the step that ends it
 
@@ -87,14 +116,19 @@ movesRun (t ∷ ts) (k ∷ ks) [] w = []
 
 abbrev pub StepsBack : Type 0
 StepsBack =
-    (w : World) → TypedBoard (boardOf w) → Start w → (moves : List Move)
-    → Told ((playFrom moves (unrefused w)) .world) (follow (places (w .history)) moves w (first w))
+    (w : World) → TypedBoard (boardOf w) → Start w → (moves : List Move) → TypedMoves moves
+    → let r = places (w .history) in Told r ((playFrom moves (unrefused w)) .world) (follow r moves w (first w))
 
 -- a run gives what a play of its moves gives, so what is told of a play is told of a run
 abbrev pub RunsPlay : Type 0
 RunsPlay =
     (ticks keys randoms : List ℕ) (w : World) → TypedBoard (boardOf w) → runRefusal ticks keys randoms w ≡ 0
     → (run ticks keys randoms w) .answer ≡ playFrom (movesRun ticks keys randoms w) (unrefused w)
+
+-- and its moves are typed, as the keys and random bytes of its lists are
+abbrev pub RunsTyped : Type 0
+RunsTyped =
+    (ticks keys randoms : List ℕ) (w : World) → Below 65536 keys → Below 256 randoms → TypedMoves (movesRun ticks keys randoms w)
 
 -- an accepted load gives such a start
 abbrev pub LoadStarts : Type 0

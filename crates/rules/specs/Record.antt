@@ -1,20 +1,23 @@
--- The history record: 288 bytes that keep what stood before an action.
+-- The history record: 292 bytes that keep what stood before an action, and the action's inputs.
 use mathlib.Core.Bool.{Bool, true, not, _&&_, _||_}
 use mathlib.Core.List.{List, [], _∷_, _++_}
-use Prim.Native.Nat.{ℕ, _+_, _-_, _*_}
+use Prim.Native.Nat.{ℕ, _+_, _-_, _*_, _%_}
 use lib.ListN.{getD, set, take, replicate}
 use lib.Dec.{eqb, leb}
 use Rattle.rules.specs.declared.Machine.{Machine}
 use Rattle.rules.specs.declared.Wait.{Wait}
 use Rattle.rules.specs.declared.Wait.the-variants.{Idle, Held}
+use Rattle.rules.specs.declared.Action.{Action}
+use Rattle.rules.specs.declared.Action.the-variants.{Step, Tick}
 use Rattle.rules.specs.declared.Change.{Change}
 use Rattle.rules.specs.declared.Change.the-variants.{Nothing, InMemory, InPicture}
 use Rattle.rules.specs.Number.{pick, word}
 use Rattle.rules.specs.State.{memorySize, pictureSize, stackSize}
 use Rattle.rules.specs.Memory.{part, over}
+use Rattle.rules.specs.Step.{Board}
 
 abbrev pub placeSize : ℕ
-placeSize = 288
+placeSize = 292
 
 -- ---- the table of offsets
 
@@ -53,6 +56,15 @@ atCount = 30
 
 abbrev pub atOld : ℕ
 atOld = 32
+
+abbrev pub atKeys : ℕ
+atKeys = 288
+
+abbrev pub atRandom : ℕ
+atRandom = 290
+
+abbrev pub atKind : ℕ
+atKind = 291
 
 -- ---- a change
 
@@ -99,12 +111,17 @@ fields m c =
     word (m .i) ++ word (m .pc) ++ (m .depth ∷ []) ++ word (lastReturn m)
     ++ (m .timers .delay ∷ m .timers .tone ∷ heldByte (m .wait) ∷ []) ++ word (start c) ++ word (count c)
 
--- with the bytes that are about to change
-unfoldable pub recordWith : Machine → Change → List ℕ → List ℕ
-recordWith m c bytes = mark c ++ m .v ++ fields m c ++ bytes ++ replicate (placeSize - atOld - count c) 0
+-- what stands last: the key bits, the random byte, and 1 for a step; 0 for a tick, with no keys and no random byte
+abbrev pub inputs : Action → List ℕ
+inputs (Step keys random) = word keys ++ (random % 256 ∷ 1 ∷ [])
+inputs Tick = word 0 ++ (0 ∷ 0 ∷ [])
 
-abbrev pub recordOf : Machine → Change → List ℕ → List ℕ → List ℕ
-recordOf m c memory picture = recordWith m c (old c memory picture)
+-- with the bytes that are about to change
+unfoldable pub recordWith : Machine → Change → List ℕ → Action → List ℕ
+recordWith m c bytes a = mark c ++ m .v ++ fields m c ++ bytes ++ replicate (atKeys - atOld - count c) 0 ++ inputs a
+
+abbrev pub recordOf : Change → Action → Board → List ℕ
+recordOf c a b = recordWith (b .machine) c (old c (b .memory) (b .picture)) a
 
 -- ---- reading one
 
@@ -139,9 +156,17 @@ depthSound r present =
 abbrev pub keySound : List ℕ → Bool
 keySound r = leb (byteAt r atHeld) 15 || eqb (byteAt r atHeld) 0xFF
 
+-- its last byte is 0 or 1
+abbrev pub kindSound : List ℕ → Bool
+kindSound r = leb (byteAt r atKind) 1
+
 -- beside a state of that depth
 abbrev pub damaged : List ℕ → ℕ → Bool
-damaged r present = not (changeSound r && depthSound r present && keySound r)
+damaged r present = not (changeSound r && depthSound r present && keySound r && kindSound r)
+
+-- the action that it was written beside
+abbrev pub actionAt : List ℕ → Action
+actionAt r = pick (eqb (byteAt r atKind) 1) (Step (wordAt r atKeys) (byteAt r atRandom)) Tick
 
 abbrev pub waitAt : List ℕ → Wait
 waitAt r = pick (eqb (byteAt r atHeld) 0xFF) Idle (Held (byteAt r atHeld))

@@ -2,7 +2,7 @@
 use Prim.Native.Nat.{ℕ}
 use Rattle.rules.specs.declared.Refusal.{Refusal}
 use Rattle.rules.specs.declared.Refusal.the-variants.{PcPastEnd, Unlisted, MachineCode, StackFull, StackEmpty, MemoryPastEnd}
-use Rattle.rules.specs.declared.Refusal.the-variants.{NothingKept, ProgramLength, BufferLength, Unsound, Damaged}
+use Rattle.rules.specs.declared.Refusal.the-variants.{NothingKept, ProgramLength, BufferLength, Unsound, Damaged, NothingAhead}
 use Rattle.rules.specs.declared.Outcome.{Outcome}
 use Rattle.rules.specs.declared.Outcome.the-variants.{Done, Refused}
 
@@ -18,6 +18,7 @@ numberOf ProgramLength = 8
 numberOf BufferLength = 9
 numberOf Unsound = 10
 numberOf Damaged = 11
+numberOf NothingAhead = 12
 
 abbrev pub number : Outcome → ℕ
 number Done = 0

@@ -8,7 +8,7 @@ use Rattle.rules.specs.declared.Refusal.the-variants.{BufferLength, Unso
 use Rattle.rules.specs.Number.{pick, unless}
 use Rattle.rules.specs.Refusal.{numberOf}
 use Rattle.rules.specs.World.{World, Answer, buffersFit, soundly}
-use Rattle.rules.specs.Call.{step, tick, ticked, back}
+use Rattle.rules.specs.Call.{step, tick, ticked, back, forward}
 
 -- three lists of one length, 0 to 4,096
 abbrev pub listsFit : List ℕ → List ℕ → List ℕ → Bool
@@ -56,20 +56,26 @@ pub data Move : Type 0 where
   aStep : ℕ → ℕ → Move
   aTick : Move
   aBack : Move
+  aForward : Move
 
 abbrev pub made : Move → World → Answer
 made (aStep keys random) w = step keys random w
 made aTick w = tick w
 made aBack w = back w
+made aForward w = forward w
 
 -- each move is made on the world that the last one gave, refused or not
 unfoldable pub playFrom : List Move → Answer → Answer
 playFrom [] a = a
 playFrom (m ∷ ms) a = playFrom ms (made m (a .world))
 
--- a byte for each move: 0 a step, 1 a tick, 2 a step back
+-- a byte for each move: 0 a step, 1 a tick, 2 a step back, 3 a step forward
 abbrev pub moveOf : ℕ → ℕ → ℕ → Move
-moveOf b keys random = pick (eqb b 0) (aStep keys random) (pick (eqb b 1) aTick aBack)
+moveOf b keys random =
+    pick (eqb b 0) (aStep keys random)
+    (pick (eqb b 1) aTick
+    (pick (eqb b 2) aBack
+    aForward))
 
 unfoldable pub movesOf : List ℕ → List ℕ → List ℕ → List Move
 movesOf (b ∷ bs) (k ∷ ks) (r ∷ rs) = moveOf b k r ∷ movesOf bs ks rs
@@ -79,7 +85,7 @@ movesOf (b ∷ bs) (k ∷ ks) [] = []
 
 unfoldable pub allMoves : List ℕ → Bool
 allMoves [] = true
-allMoves (b ∷ bs) = leb b 2 && allMoves bs
+allMoves (b ∷ bs) = leb b 3 && allMoves bs
 
 abbrev pub movesFit : List ℕ → List ℕ → List ℕ → Bool
 movesFit moves keys randoms = listsFit moves keys randoms && allMoves moves
@@ -102,5 +108,6 @@ pub record EachCall (P : (World → Answer) → Type 0) : Type 0 where
   pub step : (keys random : ℕ) → P (step keys random)
   pub tick : P tick
   pub back : P back
+  pub forward : P forward
   pub run : (ticks keys randoms : List ℕ) → P (λ w. (run ticks keys randoms w) .answer)
   pub play : (moves keys randoms : List ℕ) → P (play moves keys randoms)

@@ -1,7 +1,7 @@
 -- What is lent and handed in, and what every call tests of it first.
 use mathlib.Core.Bool.{Bool, _&&_}
 use mathlib.Core.List.{List}
-use Prim.Native.Nat.{ℕ, _/_}
+use Prim.Native.Nat.{ℕ, _+_, _/_}
 use lib.ListN.{length}
 use lib.Dec.{eqb, ltb, leb}
 use Rattle.rules.specs.declared.Machine.{Machine}
@@ -22,6 +22,11 @@ pub record World : Type 0 where
 abbrev pub world : Machine → Trail → List ℕ → List ℕ → List ℕ → World
 world m t memory picture history = record { machine = m; trail = t; memory = memory; picture = picture; history = history }
 
+-- the same world with another number ahead
+abbrev pub withAhead : ℕ → World → World
+withAhead n w =
+    world (w .machine) (record { next = w .trail .next; kept = w .trail .kept; ahead = n }) (w .memory) (w .picture) (w .history)
+
 -- what the step-back theorem keeps a list of
 abbrev pub boardOf : World → Board
 boardOf w = record { machine = w .machine; memory = w .memory; picture = w .picture }
@@ -41,9 +46,9 @@ sizesFit memory picture history = eqb (length memory) memorySize && eqb (length 
 abbrev pub buffersFit : World → Bool
 buffersFit w = sizesFit (w .memory) (w .picture) (w .history)
 
--- next and kept are in range
+-- next is below R, and kept plus ahead, and so kept, at most R
 abbrev pub trailFits : Trail → List ℕ → Bool
-trailFits t history = ltb (t .next) (places history) && leb (t .kept) (places history)
+trailFits t history = ltb (t .next) (places history) && leb (t .kept + t .ahead) (places history)
 
 abbrev pub soundly : World → Bool
 soundly w = sound (w .machine) && trailFits (w .trail) (w .history)

@@ -62,10 +62,18 @@ impl Machine {
     }
 }
 
-// The two numbers that go with a history: the place to write next, and how many places are kept.
+// The three numbers that go with a history: the place to write next, how many places behind it are kept, and how many actions that
+// were taken back still stand ahead, from that place on.
 pub struct Trail {
     pub next: usize,
     pub kept: usize,
+    pub ahead: usize,
+}
+
+// An action with its inputs: a step with its key bits and its random byte, or a tick.
+pub enum Action {
+    Step(u16, u8),
+    Tick,
 }
 
 // What an action changes besides the state: nothing, or memory or the picture, from a start on so many bytes.
@@ -120,7 +128,7 @@ pub enum Op {
     MachineCode,
 }
 
-// Why a call is refused, in the order of the refusal numbers, 1 to 11.
+// Why a call is refused, in the order of the refusal numbers, 1 to 12.
 pub enum Refusal {
     PcPastEnd,
     Unlisted,
@@ -133,6 +141,7 @@ pub enum Refusal {
     BufferLength,
     Unsound,
     Damaged,
+    NothingAhead,
 }
 
 // What came of a call.

@@ -2,7 +2,7 @@
 use mathlib.Core.Path.{_≡_}
 use mathlib.Core.Bool.{true, _&&_, and-eq-true-iff}
 use mathlib.Core.List.{List}
-use Prim.Native.Nat.{ℕ}
+use Prim.Native.Nat.{ℕ, _+_}
 use native.Mathlib.Omega.{arith}
 use lib.ListN.{length, drop}
 use lib.Dec.{ltb, leb}
@@ -36,16 +36,16 @@ module _ (m : Machine) (t : Trail) (his : List ℕ) (o : Outcome)
   pub tick-tickable : Tickable m t his
   tick-tickable =
       let (fits, sounds) = tick-passed in
-      let room = and-eq-true-iff (leb 288 (length his)) (leb (length his) 65536) .0 fits in
+      let room = and-eq-true-iff (leb 292 (length his)) (leb (length his) 65536) .0 fits in
       let parts = and-eq-true-iff (sound m) (trailFits t his) .0 sounds in
-      let range = and-eq-true-iff (ltb (t .next) (places his)) (leb (t .kept) (places his)) .0 (parts .1) in
+      let range = and-eq-true-iff (ltb (t .next) (places his)) (leb (t .kept + t .ahead) (places his)) .0 (parts .1) in
       let clear = zeros (drop (m .depth) (m .stack)) in
       let first = and-eq-true-iff (leb (m .depth) 12 && clear) (heldSound (m .wait)) .0 (parts .0) in
       let most = leb-true (length his) 65536 (room .1) in
       record {
         shallow = leb-true (m .depth) 12 (and-eq-true-iff (leb (m .depth) 12) clear .0 (first .0) .0);
         most = most;
-        range = record { next = ltb-true _ _ (range .0); kept = leb-true _ _ (range .1); few = omega arith };
+        range = record { next = ltb-true _ _ (range .0); kept = omega (arith, leb-true (t .kept + t .ahead) (places his) (range .1)); few = omega arith };
       }
 
   pub tick-done : (memory picture : List ℕ) → tick (world m t memory picture his) ≡ unrefused (ticked (world m t memory picture his))

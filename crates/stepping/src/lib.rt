@@ -1,4 +1,4 @@
-// One action forward: a step, and a tick.
+// One action: a step, a tick, and whichever of them is named.
 ghost use mathlib.Core.Path.{_≡_};
 ghost use mathlib.Core.List.{List};
 ghost use Prim.Native.Nat.{ℕ, _≤_};
@@ -6,8 +6,10 @@ ghost use Rattle.rules.specs.World.{world};
 ghost use Rattle.rules.specs.Call as rule;
 ghost use Rattle.rules.specs.Dark.{stepDark};
 ghost use Rattle.rules.specs.Promise.{Gives};
+ghost use Rattle.stepping.specs.Taken.{taken};
 use parts::Answer;
 use parts::Stepped;
+use rules::Action;
 use rules::Machine;
 use rules::Outcome;
 use rules::Trail;
@@ -78,5 +80,34 @@ pub fn tick(machine: Machine, trail: Trail, history: &mut [u8]) -> Answer
         outcome: ticked,
         machine: parts::whole(core, v, stack),
         trail: grown,
+    }
+}
+
+// Takes the action that is named, with its inputs.
+pub fn take(
+    action: Action,
+    machine: Machine,
+    trail: Trail,
+    memory: &mut [u8],
+    picture: &mut [u8],
+    history: &mut [u8],
+) -> Answer
+    ensures { λ r. ⌜ Gives
+        (taken action (world machine trail (now (memory .entry)) (now (picture .entry)) (now (history .entry)))) (r .outcome)
+        (r .machine) (r .trail) (now (memory .exit)) (now (picture .exit)) (now (history .exit)) ⌝ }
+{
+    match action {
+        Action::Step(keys, random) => {
+            let stepped = step(machine, trail, memory, picture, history, keys, random);
+            let outcome = stepped.outcome;
+            let next_machine = stepped.machine;
+            let next_trail = stepped.trail;
+            Answer {
+                outcome,
+                machine: next_machine,
+                trail: next_trail,
+            }
+        }
+        Action::Tick => tick(machine, trail, history),
     }
 }

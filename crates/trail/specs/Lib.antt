@@ -1,2 +1,2 @@
--- What the two numbers must be before they are counted on.
+-- What the numbers must be before they are counted on.
 pub mod InRange

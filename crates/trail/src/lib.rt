@@ -1,4 +1,4 @@
-// The history's two numbers, next and kept, counted on and counted back.
+// The history's three numbers, next, kept and ahead, counted on and counted back.
 ghost use mathlib.Core.Path.{_≡_};
 ghost use Prim.Native.Nat.{_+_, _≤_, _<_};
 ghost use lib.Dec.{eqb};
@@ -9,7 +9,7 @@ use rules::Trail;
 
 // Next goes up by one, R becoming 0.
 fn next_place(next: usize, places: usize) -> usize
-    requires { ⌜ (next < places) × (places ≤ 227) ⌝ }
+    requires { ⌜ (next < places) × (places ≤ 224) ⌝ }
     ensures { λ r. ⌜ r ≡ rule.nextPlace places next ⌝ }
 {
     if next + 1 == places { 0 } else { next + 1 }
@@ -17,13 +17,13 @@ fn next_place(next: usize, places: usize) -> usize
 
 // Kept rises by one to at most R.
 fn one_more(kept: usize, places: usize) -> usize
-    requires { ⌜ (kept ≤ places) × (places ≤ 227) ⌝ }
+    requires { ⌜ (kept ≤ places) × (places ≤ 224) ⌝ }
     ensures { λ r. ⌜ r ≡ pick (eqb kept places) places (kept + 1) ⌝ }
 {
     if kept == places { places } else { kept + 1 }
 }
 
-// After an action.
+// After a new action: nothing stands ahead any more.
 pub fn grown(t: Trail, places: usize) -> Trail
     requires { ⌜ InRange t places ⌝ }
     ensures { λ r. ⌜ r ≡ rule.grown places t ⌝ }
@@ -31,6 +31,7 @@ pub fn grown(t: Trail, places: usize) -> Trail
     Trail {
         next: next_place(t.next, places),
         kept: one_more(t.kept, places),
+        ahead: 0,
     }
 }
 

@@ -1,5 +1,5 @@
 //! Steps a second of the card's archive, beside the hand-tuned engine and
-//! beside the floor: only clearing the 288 bytes of each action's record. Then
+//! beside the floor: only clearing the 292 bytes of each action's record. Then
 //! bytes a second of the panel, beside copying as many bytes.
 //!
 //! Everything is measured in one run, in turns, so that whatever else the

@@ -5,7 +5,7 @@ use crate::buffers::Part;
 use crate::case::Call;
 use crate::engine::ANSWER;
 use crate::random::Random;
-use crate::second::{Machine, LIST_MOST, MOVE_BACK, MOVE_STEP, MOVE_TICK};
+use crate::second::{Machine, LIST_MOST, MOVE_BACK, MOVE_FORWARD, MOVE_STEP, MOVE_TICK};
 
 pub fn step(random: &Random) -> Call {
     Call::Step {
@@ -39,13 +39,14 @@ pub fn run(entries: usize, random: &Random) -> Call {
 }
 
 pub fn play(entries: usize, random: &Random) -> Call {
-    let moves = match random.within(0..=2) {
-        0 => [MOVE_STEP, MOVE_STEP, MOVE_STEP, MOVE_TICK, MOVE_BACK],
-        1 => [MOVE_STEP, MOVE_TICK, MOVE_BACK, MOVE_BACK, MOVE_BACK],
-        _ => [MOVE_STEP, MOVE_STEP, MOVE_TICK, MOVE_BACK, MOVE_BACK],
-    };
+    let times = random.pick(&[[3, 1, 1, 1], [1, 1, 3, 1], [1, 0, 2, 3], [2, 1, 2, 1]]);
+    let lots: Vec<u8> = [MOVE_STEP, MOVE_TICK, MOVE_BACK, MOVE_FORWARD]
+        .into_iter()
+        .zip(times)
+        .flat_map(|(lot, times)| std::iter::repeat_n(lot, times))
+        .collect();
     Call::Play {
-        moves: (0..entries).map(|_| random.pick(&moves)).collect(),
+        moves: (0..entries).map(|_| random.pick(&lots)).collect(),
         keys: keys(entries, random),
         randoms: random.bytes(entries),
     }
@@ -69,15 +70,26 @@ pub fn load(random: &Random) -> Call {
     }
 }
 
+/// A few backs and forwards in any order.
+pub fn to_and_fro(most: usize, random: &Random) -> Vec<Call> {
+    (0..random.within(0..=most))
+        .map(|_| match random.once_in(3) {
+            true => Call::Forward,
+            false => Call::Back,
+        })
+        .collect()
+}
+
 /// Any call at all.
 pub fn any(random: &Random) -> Call {
-    match random.within(0..=7) {
+    match random.within(0..=8) {
         0 => load(random),
         1 | 2 => step(random),
         3 => Call::Tick,
         4 => Call::Back,
-        5 => run(random.within(0..=5), random),
-        6 => play(random.within(0..=5), random),
+        5 => Call::Forward,
+        6 => run(random.within(0..=5), random),
+        7 => play(random.within(0..=5), random),
         _ => {
             let mut call = match random.once_in(2) {
                 true => run(random.within(0..=3), random),
@@ -105,7 +117,7 @@ pub fn spoil_lists(call: &mut Call, random: &Random) {
         } => {
             if random.once_in(2) && !moves.is_empty() {
                 let at = random.pick(&[0, moves.len() - 1, random.within(0..=moves.len() - 1)]);
-                moves[at] = random.pick(&[3, 4, 128, 255]);
+                moves[at] = random.pick(&[4, 5, 128, 255]);
                 return;
             }
             (moves, keys, randoms)

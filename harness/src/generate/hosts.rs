@@ -7,18 +7,20 @@ use crate::second::{
     Machine, FIRST_EDITION, HISTORY_MOST, LATER, MEMORY, PICTURE, PLACE, SECOND_EDITION, STACK,
 };
 
+const PLACES_MOST: usize = HISTORY_MOST / PLACE;
+
 /// Mostly few places, so that they are soon used up and compared quickly; the
 /// bytes after the last place are any number.
 pub fn history_length(random: &Random) -> usize {
     let places = match random.within(0..=19) {
         0 => random.within(4..=40),
-        1 if random.once_in(4) => random.within(1..=227),
+        1 if random.once_in(4) => random.within(1..=PLACES_MOST),
         2 if random.once_in(4) => return HISTORY_MOST,
         3..=9 => 1,
         10..=14 => 2,
         _ => 3,
     };
-    let rest = random.pick(&[0, 0, 0, 1, 31, 287]);
+    let rest = random.pick(&[0, 0, 0, 1, 31, PLACE - 1]);
     (PLACE * places + rest).min(HISTORY_MOST)
 }
 
@@ -26,7 +28,7 @@ pub fn history_length(random: &Random) -> usize {
 pub fn walk_history_length(random: &Random) -> usize {
     match random.within(0..=3) {
         0 => PLACE * random.within(4..=40) + random.within(0..=PLACE - 1),
-        1 if random.once_in(4) => PLACE * random.within(41..=227),
+        1 if random.once_in(4) => PLACE * random.within(41..=PLACES_MOST),
         _ => history_length(random),
     }
 }
@@ -94,15 +96,19 @@ fn history_bytes(length: usize, random: &Random) -> Vec<u8> {
     }
 }
 
-/// A kept number, often 0 or all.
-pub fn kept(places: usize, random: &Random) -> u16 {
-    random.pick(&[0, 1, places, random.within(0..=places)]) as u16
+/// Sets kept, often to 0 or all, and ahead, often to 0 or all that kept leaves.
+/// No record need stand behind either.
+pub fn set_reach(machine: &mut Machine, places: usize, random: &Random) {
+    let kept = random.pick(&[0, 1, places, random.within(0..=places)]);
+    let left = places - kept;
+    let ahead = random.pick(&[0, 0, left.min(1), left, random.within(0..=left)]);
+    (machine.kept, machine.ahead) = (kept as u16, ahead as u16);
 }
 
 /// Makes an image unsound, or puts its numbers out of range, in one way.
 pub fn spoil_image(image: &mut [u8], places: usize, random: &Random) {
     let number = |value: usize| (value as u16).to_be_bytes();
-    match random.within(0..=6) {
+    match random.within(0..=7) {
         0 => image[20] = random.pick(&[13, 14, 16, 128, 255]),
         1 => {
             let depth = random.within(0..=STACK - 1);
@@ -117,9 +123,17 @@ pub fn spoil_image(image: &mut [u8], places: usize, random: &Random) {
             let next = random.pick(&[places, places + 1, 256, 0x8000, 0xFFFF]);
             image[48..50].copy_from_slice(&number(next));
         }
-        _ => {
+        6 => {
             let kept = random.pick(&[places + 1, places + 2, 256, 0x8000, 0xFFFF]);
             image[50..52].copy_from_slice(&number(kept));
+        }
+        _ => {
+            let kept = random.pick(&[0, 1, places, random.within(0..=places)]);
+            let past = places + 1 - kept;
+            // A sum of 65,536 would be 0 in 16 bits.
+            let ahead = random.pick(&[past, past + 1, 0x8000, 0x10000 - kept.max(1)]);
+            image[50..52].copy_from_slice(&number(kept));
+            image[54..56].copy_from_slice(&number(ahead));
         }
     }
 }
@@ -133,7 +147,8 @@ pub fn spoil_lengths(host: &mut Host, random: &Random) {
         _ => resize(
             &mut host.history,
             &[
-                0, 1, 287, 288, 289, 575, 576, 577, 65_376, 65_535, 65_536, 65_537, 65_824, 131_072,
+                0, 1, 288, 291, 292, 293, 583, 584, 585, 65_408, 65_535, 65_536, 65_537, 65_828,
+                131_072,
             ],
             random,
         ),

@@ -5,26 +5,33 @@ use crate::buffers::{Host, Part};
 use crate::case::{write_bytes, Call, Case};
 use crate::random::Random;
 use crate::second::{
-    places, Machine, FIRST_EDITION, HISTORY_MOST, LIST_MOST, MEMORY, MOVE_BACK, MOVE_STEP, PICTURE,
-    PLACE, START,
+    places, Machine, FIRST_EDITION, HISTORY_MOST, LIST_MOST, MEMORY, MOVE_BACK, MOVE_FORWARD,
+    MOVE_STEP, PICTURE, PLACE, START,
 };
 
-/// Again and again a new machine and an instruction at its PC, with operands at
-/// the edges; then a step, and sometimes the way back.
+/// A new machine, and an instruction to stand at its PC, with operands at the
+/// edges.
+fn before_an_instruction(places: usize, random: &Random) -> (Machine, u16) {
+    let mut machine = hosts::machine(places, random);
+    let word = match random.within(0..=5) {
+        0 | 1 => instructions::using_memory(random),
+        2 => instructions::using_the_flag(machine.edition, random),
+        _ => instructions::any(machine.edition, random),
+    };
+    machine.i = instructions::i_for(word, random);
+    instructions::bring_near(word, &mut machine.v, random);
+    hosts::set_reach(&mut machine, places, random);
+    (machine, word)
+}
+
+/// Again and again a new machine and an instruction at its PC; then a step, and
+/// sometimes the way back and forward again.
 pub fn one_instruction_at_a_time(random: &Random) -> Case {
     let start = hosts::sound(random);
     let places = places(&start.history);
     let mut made = Vec::new();
     for _ in 0..random.within(1..=24) {
-        let mut machine = hosts::machine(places, random);
-        let word = match random.within(0..=5) {
-            0 | 1 => instructions::using_memory(random),
-            2 => instructions::using_the_flag(machine.edition, random),
-            _ => instructions::any(machine.edition, random),
-        };
-        machine.i = instructions::i_for(word, random);
-        instructions::bring_near(word, &mut machine.v, random);
-        machine.kept = hosts::kept(places, random);
+        let (machine, word) = before_an_instruction(places, random);
         made.push(calls::write_memory(machine.pc, word));
         made.push(calls::write_image(&machine));
         made.push(match random.within(0..=5) {
@@ -32,9 +39,7 @@ pub fn one_instruction_at_a_time(random: &Random) -> Case {
             1 => calls::play(random.within(0..=4), random),
             _ => calls::step(random),
         });
-        for _ in 0..random.within(0..=2) {
-            made.push(Call::Back);
-        }
+        made.extend(calls::to_and_fro(3, random));
     }
     Case { start, calls: made }
 }
@@ -46,7 +51,10 @@ pub fn back_onto_a_record(random: &Random) -> Case {
     let mut made = Vec::new();
     for _ in 0..random.within(1..=12) {
         let mut machine = hosts::machine(places, random);
-        machine.kept = hosts::kept(places, random).max(1);
+        hosts::set_reach(&mut machine, places, random);
+        if machine.kept == 0 {
+            (machine.kept, machine.ahead) = (1, 0);
+        }
         let mut record = records::whole(machine.depth, random);
         for _ in 0..random.within(0..=2) {
             records::spoil(&mut record, machine.depth, random);
@@ -63,8 +71,43 @@ pub fn back_onto_a_record(random: &Random) -> Case {
             _ => Call::Back,
         });
         if random.once_in(3) {
+            made.push(Call::Forward);
+        }
+        if random.once_in(3) {
             made.push(calls::any(random));
         }
+    }
+    Case { start, calls: made }
+}
+
+/// A forward onto a record of any hand: a step with inputs of its own, a tick, or
+/// neither. What is made again is the instruction that stands at PC now.
+pub fn forward_onto_a_record(random: &Random) -> Case {
+    let start = hosts::sound(random);
+    let places = places(&start.history);
+    let mut made = Vec::new();
+    for _ in 0..random.within(1..=12) {
+        let (mut machine, word) = before_an_instruction(places, random);
+        if machine.ahead == 0 && !random.once_in(8) {
+            machine.ahead = 1;
+            machine.kept = machine.kept.min(places as u16 - 1);
+        }
+        let mut record = records::whole(machine.depth, random);
+        for _ in 0..random.within(0..=2) {
+            records::spoil(&mut record, machine.depth, random);
+        }
+        made.push(Call::Write {
+            part: Part::History,
+            at: PLACE * usize::from(machine.next),
+            bytes: record,
+        });
+        made.push(calls::write_memory(machine.pc, word));
+        made.push(calls::write_image(&machine));
+        made.push(match random.within(0..=3) {
+            0 => calls::play(random.within(1..=3), random),
+            _ => Call::Forward,
+        });
+        made.extend(calls::to_and_fro(2, random));
     }
     Case { start, calls: made }
 }
@@ -138,10 +181,11 @@ pub fn key_waits(random: &Random) -> Case {
     start.image = machine.to_image().to_vec();
     let few = [0, 1 << random.within(0..=15), 1 << random.within(0..=15)];
     let made = (0..random.within(10..=60))
-        .map(|_| match random.within(0..=9) {
-            0 => Call::Back,
-            1 => Call::Tick,
-            2 => calls::run(random.within(1..=4), random),
+        .map(|_| match random.within(0..=11) {
+            0 | 1 => Call::Back,
+            2 => Call::Forward,
+            3 => Call::Tick,
+            4 => calls::run(random.within(1..=4), random),
             _ => Call::Step {
                 keys: random.pick(&few) | random.pick(&few),
                 random: random.byte(),
@@ -204,7 +248,7 @@ fn load_of_a_ring(random: &Random) -> Call {
 }
 
 /// Steps, ticks, runs and plays, with backs in rows now and then, sometimes as
-/// far as the places reach and once more.
+/// far as the places reach and once more, and forwards after them.
 fn walk(most: usize, places: usize, random: &Random) -> Vec<Call> {
     let mut made = Vec::new();
     let length = random.within(10..=most);
@@ -215,10 +259,14 @@ fn walk(most: usize, places: usize, random: &Random) -> Vec<Call> {
             7 => {
                 let row = random.pick(&[2, 3, 5, 20, places, places + 1]);
                 made.extend(std::iter::repeat_n(Call::Back, row));
+                let again = random.pick(&[0, 1, row - 1, row, row + 1]).min(places + 1);
+                made.extend(std::iter::repeat_n(Call::Forward, again));
             }
-            8 => made.push(calls::run(random.within(0..=12), random)),
-            9 => made.push(calls::play(random.within(0..=12), random)),
-            10 if random.once_in(8) => {
+            8 => made.extend(calls::to_and_fro(8, random)),
+            9 => made.push(calls::run(random.within(0..=12), random)),
+            10 => made.push(calls::play(random.within(0..=12), random)),
+            11 => made.push(Call::Forward),
+            12 if random.once_in(8) => {
                 let mut call = calls::run(random.within(0..=4), random);
                 calls::spoil_lists(&mut call, random);
                 made.push(call);
@@ -259,12 +307,14 @@ pub fn long_lists(random: &Random) -> Case {
     made.push(run);
     made.push(calls::play(entries, random));
     let reach = places(&start.history);
-    let mut back_all_the_way = calls::play(reach + 1, random);
-    if let Call::Play { moves, .. } = &mut back_all_the_way {
-        moves.fill(MOVE_BACK);
-        moves[reach] = random.pick(&[MOVE_BACK, MOVE_STEP]);
+    for end in [MOVE_BACK, MOVE_FORWARD] {
+        let mut all_the_way = calls::play(reach + 1, random);
+        if let Call::Play { moves, .. } = &mut all_the_way {
+            moves.fill(end);
+            moves[reach] = random.pick(&[end, end, MOVE_STEP]);
+        }
+        made.push(all_the_way);
     }
-    made.push(back_all_the_way);
     made.extend(walk(20, 2, random));
     Case { start, calls: made }
 }

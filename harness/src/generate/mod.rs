@@ -16,6 +16,7 @@ type Kind = fn(&Random) -> Case;
 const KINDS: &[(usize, Kind)] = &[
     (40, kinds::one_instruction_at_a_time),
     (30, kinds::back_onto_a_record),
+    (25, kinds::forward_onto_a_record),
     (10, kinds::unsound),
     (12, kinds::wrong_lengths),
     (6, kinds::loads),

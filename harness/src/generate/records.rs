@@ -1,5 +1,6 @@
 //! History records: whole, barely whole, and damaged in each way the rules list.
 
+use super::instructions;
 use crate::random::Random;
 use crate::second::PLACE;
 
@@ -17,6 +18,7 @@ pub fn whole(present_depth: u8, random: &Random) -> Vec<u8> {
         record[23..25].fill(0);
     }
     record[27] = random.pick(&[0xFF, 0, 15, random.byte() & 15]);
+    inputs(&mut record, random);
     match random.within(0..=2) {
         0 => range(&mut record, b"NO", 0, 0),
         1 => {
@@ -33,6 +35,12 @@ pub fn whole(present_depth: u8, random: &Random) -> Vec<u8> {
     record
 }
 
+/// A tick's record of another hand may have any keys and random byte too.
+fn inputs(record: &mut [u8], random: &Random) {
+    record[288..290].copy_from_slice(&instructions::keys(random).to_be_bytes());
+    record[291] = random.pick(&[0, 1, 1, 1]);
+}
+
 fn range(record: &mut [u8], mark: &[u8; 2], start: usize, count: usize) {
     record[0..2].copy_from_slice(mark);
     record[28..30].copy_from_slice(&(start as u16).to_be_bytes());
@@ -41,7 +49,7 @@ fn range(record: &mut [u8], mark: &[u8; 2], start: usize, count: usize) {
 
 /// Changes one field to a value near an edge. The record may stay whole.
 pub fn spoil(record: &mut [u8], present_depth: u8, random: &Random) {
-    match random.within(0..=6) {
+    match random.within(0..=7) {
         0 => {
             let marks: [&[u8]; 14] = [
                 b"NO",
@@ -89,6 +97,7 @@ pub fn spoil(record: &mut [u8], present_depth: u8, random: &Random) {
             record[28..30].copy_from_slice(&start.to_be_bytes());
             record[30..32].copy_from_slice(&count.to_be_bytes());
         }
+        6 => record[291] = random.pick(&[0, 1, 2, 3, 128, 254, 255]),
         _ => record[random.within(28..=31)] = random.pick(&[0, 1, 2, 16, 17, 128, 255]),
     }
 }

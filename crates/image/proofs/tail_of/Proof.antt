@@ -1,10 +1,19 @@
--- The first element is what its callee ensures.
-use mathlib.Core.Path.{ap}
+-- Each byte is what its callee ensures; of ahead the last two bytes count.
+use mathlib.Core.Path.{_≡_}
 use mathlib.Core.List.{_∷_}
-use Prim.Native.Nat.{ℕ}
+use Prim.Native.Nat.{_/_, _%_}
 use lib.ListN.{replicate}
+use native.Mathlib.Omega.{arith}
 use Rattle.image.proofs.tail_of.Statement.{statement}
 use Rattle.image.proofs.tail_of.Tie as tie
 
+returns : tie.Need-returns
+returns c =
+    let edition = c .before .before .edition-byte .ensures in
+    let ahead = c .before .before .before .before .args .t .ahead in
+    let high : c .before .high .result ≡ ahead / 256 % 256 = omega (arith, c .before .high .ensures) in
+    let low : c .low .result ≡ ahead % 256 = omega (arith, c .low .ensures) in
+    λ i. edition i ∷ 0 ∷ high i ∷ low i ∷ replicate 8 0
+
 pub tail-of-spec : {M : Type 1} → statement M
-tail-of-spec = tie.close (tie.spec (λ c κs. tt) (λ c. ap (λ (n : ℕ). n ∷ replicate 11 0) (c .edition-byte .ensures)))
+tail-of-spec = tie.close (tie.spec (λ c. omega arith) (λ c κs. tt) (λ c κs. tt) (λ c κs. tt) returns)

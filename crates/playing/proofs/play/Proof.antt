@@ -6,6 +6,7 @@ use borrow.Author.Needs.{needs}
 use Rattle.rules.specs.Refusal.{number}
 use Rattle.rules.specs.World.{World, world}
 use Rattle.rules.specs.Run.{listsFit, allMoves}
+use Rattle.rules.proofs.Parts.{below-of}
 use Rattle.rules.proofs.Ready.{ready-typed}
 use Rattle.rules.proofs.Given.{tests, passed-lists}
 use Rattle.playing.proofs.Moves.{play-refused, play-admitted, start-not-refused, play-told}
@@ -43,9 +44,11 @@ returns-2 c =
     let done = c .before .before .before .before .before .before .before .before .before .before .enum-told .given .1 in
     let admitted = c .before .before .before .before .before .before .before .before .before .before .before .before .admitted .ensures in
     let says = rw (c .before .before .before .before .before .before .before .before .before .before .before .before .before .before .before .before .all-moves .ensures, c .before .before .before .before .before .before .before .before .before .before .before .before .before .before .before .before .before .lists-fit .ensures) at (admitted .0) in
+    let keys = below-of (a .keys .now) (λ i h. (c .before .before .before .before .before .before .before .before .before .before .before .before .before .before .before .before .before .before .before .shared-slice-known2 .given i) .fits) in
+    let randoms = below-of (a .randoms .now) (λ i h. (c .before .before .before .before .before .before .before .before .before .before .before .before .before .before .before .before .before .before .shared-slice-known3 .given i) .fits) in
     let passed : tests w (listsFit (a .moves .now) (a .keys .now) (a .randoms .now) && allMoves (a .moves .now)) ≡ 0 = sym says ∙ ap number done in (
       rw (play-admitted (a .moves .now) (a .keys .now) (a .randoms .now) w passed) (c .before .before .before .before .before .before .make-all .ensures),
-      λ start lists all. play-told _ _ _ w (ready-typed w (admitted .1 done)) start _ _ _ _ _ _ (c .before .before .before .before .before .before .make-all .ensures),
+      λ start lists all. play-told (a .moves .now) (a .keys .now) (a .randoms .now) w (ready-typed w (admitted .1 done)) keys randoms start _ _ _ _ _ _ (c .before .before .before .before .before .before .make-all .ensures),
     )
 
 pub play-spec : {M : Type 1} → statement M

@@ -51,19 +51,25 @@ put-back-requires c κs =
       rw (intact-read (lastRecord w) (w .machine) _ read intact) ((usable (lastRecord w) (w .machine .depth) intact) .fits),
     )
 
+-- kept and ahead together are at most R
+add-ahead : tie.Need-add-t30
+add-ahead c =
+    let s = c .before .before .before .before .before .before .before .before .before .before .before .before .before .before .before .before .before .before .before .before .before in
+    omega (arith, s .pre .limit, s .pre .most)
+
 returns-3 : tie.Need-returns-3
 returns-3 c =
-    let s = c .before .before .before .before .before .before .before .before .before .before .before .before .before .before .before .before .before .before .before .before in
+    let s = c .before .before .before .before .before .before .before .before .before .before .before .before .before .before .before .before .before .before .before .before .before in
     let w = given s in
-    let places = c .before .before .before .before .before .before .before .before .before .before .before .before .before .before .places .ensures in
-    let before = c .before .before .before .before .before .before .before .before .before .before .before .before .before .place-before .ensures .0 in
+    let places = c .before .before .before .before .before .before .before .before .before .before .before .before .before .before .before .places .ensures in
+    let before = c .before .before .before .before .before .before .before .before .before .before .before .before .before .before .place-before .ensures .0 in
     let lent = last-lent w _ _ places before in
-    let read = rw lent at (c .before .before .before .before .before .before .before .before .before .before .before .read .ensures) in
-    let intact : damaged (lastRecord w) (w .machine .depth) ≡ false = sym (flag-read (lastRecord w) (w .machine) _ read) ∙ c .before .before .before .before .before .before .before .before .before .before .if2 .left in
+    let read = rw lent at (c .before .before .before .before .before .before .before .before .before .before .before .before .read .ensures) in
+    let intact : damaged (lastRecord w) (w .machine .depth) ≡ false = sym (flag-read (lastRecord w) (w .machine) _ read) ∙ c .before .before .before .before .before .before .before .before .before .before .before .if2 .left in
     let old = intact-read (lastRecord w) (w .machine) _ read intact in
-    let put = c .before .before .before .before .before .before .put-back .ensures in
-    back-gives w (s .pre) (c .before .before .before .before .before .before .before .before .before .before .before .before .before .before .before .if1 .left) intact _ _ _ _ (rw old) (rw (before, places)) (rw (lent, old) at (put .0)) (rw (lent, old) at (put .1))
+    let put = c .before .before .before .before .before .before .before .put-back .ensures in
+    back-gives w (s .pre) (c .before .before .before .before .before .before .before .before .before .before .before .before .before .before .before .before .if1 .left) intact _ _ _ _ (rw old) (rw (before, places)) (rw (lent, old) at (put .0)) (rw (lent, old) at (put .1))
 
 pub undo-spec : {M : Type 1} → statement M
 undo-spec =
-    tie.close (tie.spec returns (search needs) (search needs) mul-at add-end (search needs) (search needs) part-read-end (search needs) returns-2 (search needs) (search needs) part-put-back-end put-back-requires (search needs) (λ c. omega arith) (λ c. omega arith) returns-3)
+    tie.close (tie.spec returns (search needs) (search needs) mul-at add-end (search needs) (search needs) part-read-end (search needs) returns-2 (search needs) (search needs) part-put-back-end put-back-requires (search needs) add-ahead (λ c. omega arith) (λ c. omega arith) returns-3)

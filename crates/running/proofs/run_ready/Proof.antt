@@ -71,5 +71,5 @@ run-ready-spec =
     (λ c κs. tt) loop-holds (λ c. omega arith) (λ c. omega arith) shared-slice-read-entry-2 shared-slice-read-entry-3 (λ c κs. c .before .before .before .before .before .before .before .before .before .loop .inv .3 .ready)
     (search needs) (search needs) (λ c κs. tt) (λ c. memory-length (c .before .before .before .before .before .before .before .before .before .before .before)) (λ c. picture-length (c .before .before .before .before .before .before .before .before .before .before .before)) (λ c. history-length (c .before .before .before .before .before .before .before .before .before .before .before)) returns
     (λ c. let inv = c .before .before .before .before .before .before .before .before .before .before .before .before .before .before .before .before .before .before .before .before .before .loop .inv .3 in omega (arith, inv .few, inv .inside, inv .lists .few, c .before .before .before .before .before .before .before .before .before .before .before .entry .ensures .1 .1))
-    (λ c. omega (arith, c .before .before .before .before .before .before .before .before .before .before .before .before .before .before .before .before .before .before .before .before .before .loop .inv .3 .lists .few)) (λ c. omega arith) loop-again
+    (λ c. let inv = c .before .before .before .before .before .before .before .before .before .before .before .before .before .before .before .before .before .before .before .before .before .loop .inv .3 in omega (arith, inv .inside, inv .lists .few)) (λ c. omega (arith, c .before .before .before .before .before .before .before .before .before .before .before .before .before .before .before .before .before .before .before .before .loop-test .taken)) loop-again
     (λ c κs. tt) (λ c. c .before .before .loop .inv .0) (λ c. c .before .before .loop .inv .1) (λ c. c .before .before .loop .inv .2) returns-2)

@@ -1,4 +1,4 @@
--- Each of the two numbers is its callee's.
+-- The first two numbers are the callees'.
 use borrow.Author.Needs.{needs}
 use Rattle.trail.proofs.grown.Statement.{statement}
 use Rattle.trail.proofs.grown.Tie as tie

@@ -1,0 +1,2 @@
+-- What a step forward gives.
+pub mod Redone

@@ -1,0 +1,2 @@
+-- What the contracts of a step forward cite besides the rules.
+pub mod Left

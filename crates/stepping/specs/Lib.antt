@@ -1,0 +1,2 @@
+-- What the contracts of the actions cite besides the rules.
+pub mod Taken
