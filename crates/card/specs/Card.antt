@@ -12,7 +12,7 @@ use Rattle.rules.specs.Call.{step, tick, back, forward}
 use Rattle.rules.specs.Run.{run}
 use Rattle.rules.specs.Dark.{stepDark, runDark}
 use Rattle.rules.specs.State.{sound}
-use Rattle.stepper.specs.Page.{PageOf}
+use Rattle.page_spots.specs.Page.{PageOf}
 use Rattle.stepper.specs.Dock.{drawRefusal, pageAfter}
 use Rattle.stepper.specs.Dock.{fits as pageFits}
 use Rattle.panel.specs.Panel.{fits, panelRefusal, panelAfter, PanelOf}
