@@ -209,9 +209,10 @@ enum card_refusal {
 
 /* ---- The answer of a step and of a run ---------------------------------- */
 
-/* Where each number stands. The two after these are for later use and 0. */
+/* Where each number stands. The one after these is for later use and 0. */
 #define CARD_ACCEPTED 0  /* how many steps were accepted */
 #define CARD_WENT_DARK 1 /* how many lit spots their drawings darkened */
+#define CARD_COPIED 2    /* of a run: how many bytes its records keep */
 
 /* ---- The calls ---------------------------------------------------------- */
 
@@ -293,10 +294,12 @@ uint32_t card_forward(uint8_t *image, size_t image_length,
  * refused step ends the run, and its number is returned; all actions before
  * it stand, the ticks of its own entry included.
  *
- * answer[CARD_ACCEPTED] is the number of accepted steps, and
- * answer[CARD_WENT_DARK] the sum of the spots that each of them darkened. Ticks
- * add nothing. When a refused step ends the run, both speak of the steps before
- * it; when the run itself is refused, both are 0.
+ * answer[CARD_ACCEPTED] is the number of accepted steps,
+ * answer[CARD_WENT_DARK] the sum of the spots that each of them darkened, and
+ * answer[CARD_COPIED] the total of the count fields of their records: 3 for FX33,
+ * X + 1 for FX55, 8 for each row that DXYN draws, 256 for 00E0, and 0 for every
+ * other step. Ticks add nothing. When a refused step ends the run, all three speak
+ * of the steps before it; when the run itself is refused, they are 0.
  */
 uint32_t card_run(uint8_t *image, size_t image_length,
                   uint8_t *memory, size_t memory_length,

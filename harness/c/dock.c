@@ -373,14 +373,15 @@ static void run_and_play(void) {
 
     load(PROGRAM, sizeof PROGRAM, CARD_FIRST_EDITION);
     refusal = run(zeros, no_keys, zeros, 7);
-    printf("run: %u steps accepted, %u spots went dark\n",
+    printf("run: %u steps accepted, %u spots went dark, %u bytes copied\n",
            (unsigned)desk.answer[CARD_ACCEPTED],
-           (unsigned)desk.answer[CARD_WENT_DARK]);
+           (unsigned)desk.answer[CARD_WENT_DARK],
+           (unsigned)desk.answer[CARD_COPIED]);
     expect(refusal == CARD_DONE, "no step of this run is refused");
     expect(desk.answer[CARD_WENT_DARK] == 5,
            "a run answers for all its drawings, not for its last step");
-    expect(desk.answer[2] == 0 && desk.answer[3] == 0,
-           "the last two numbers are for later use");
+    expect(desk.answer[CARD_COPIED] == 32, "two drawings change two rows each");
+    expect(desk.answer[3] == 0, "the last number is for later use");
 
     expect(run(zeros, no_keys, zeros, 0) == CARD_DONE, "an empty run is done");
     expect(desk.answer[CARD_WENT_DARK] == 0, "an empty run darkens nothing");

@@ -9,6 +9,8 @@ pub const ANSWER: usize = 4;
 pub const ACCEPTED: usize = 0;
 /// Where they write how many lit spots went dark.
 pub const WENT_DARK: usize = 1;
+/// Where a run writes how many bytes its records keep.
+pub const COPIED: usize = 2;
 
 /// The seven calls. Each answers the refusal number, 0 for done.
 pub trait Engine {
@@ -95,6 +97,7 @@ impl Engine for Second {
             let ran = second::run(machine, lent, lists.first, lists.keys, lists.randoms);
             answer[ACCEPTED] = ran.accepted;
             answer[WENT_DARK] = ran.went_dark;
+            answer[COPIED] = ran.copied;
             number(ran.outcome)
         })
     }

@@ -541,6 +541,8 @@ pub struct Ran {
     pub accepted: u64,
     /// The sum over the accepted steps of the lit spots that went dark.
     pub went_dark: u64,
+    /// The total of the count fields of the records that the run wrote.
+    pub copied: u64,
     pub outcome: Result<(), Refusal>,
 }
 
@@ -554,6 +556,7 @@ pub fn run(
     let mut ran = Ran {
         accepted: 0,
         went_dark: 0,
+        copied: 0,
         outcome: Ok(()),
     };
     ran.outcome = test_lengths(lent)
@@ -565,11 +568,13 @@ pub fn run(
     for entry in 0..ticks.len() {
         for _ in 0..ticks[entry] {
             tick(machine, lent.history).expect("a tick of a run is never refused");
+            ran.copied += last_count(machine, lent.history);
         }
         match step(machine, lent, keys[entry], randoms[entry]) {
             Ok(went_dark) => {
                 ran.accepted += 1;
                 ran.went_dark += went_dark;
+                ran.copied += last_count(machine, lent.history);
             }
             Err(refusal) => {
                 ran.outcome = Err(refusal);
@@ -578,6 +583,11 @@ pub fn run(
         }
     }
     ran
+}
+
+/// The count field of the record that was written last, read in the history.
+fn last_count(machine: &Machine, history: &[u8]) -> u64 {
+    u64::from(get(history, PLACE * place_before(machine, history) + 30))
 }
 
 pub const MOVE_STEP: u8 = 0;
@@ -702,15 +712,20 @@ fn get(bytes: &[u8], at: usize) -> u16 {
     u16::from(bytes[at]) * 256 + u16::from(bytes[at + 1])
 }
 
+/// The place before next.
+fn place_before(machine: &Machine, history: &[u8]) -> usize {
+    match usize::from(machine.next) {
+        0 => places(history) - 1,
+        next => next - 1,
+    }
+}
+
 pub fn back(machine: &mut Machine, lent: &mut Lent) -> Result<(), Refusal> {
     test_lengths(lent)?;
     test_state(machine, lent.history)?;
     test(machine.kept > 0, Refusal::NothingKept)?;
-    let before_next = match machine.next {
-        0 => places(lent.history) as u16 - 1,
-        next => next - 1,
-    };
-    let place = PLACE * usize::from(before_next);
+    let before_next = place_before(machine, lent.history);
+    let place = PLACE * before_next;
     let record = lent.history[place..place + PLACE].to_vec();
     test(!is_damaged(&record, machine.depth), Refusal::DamagedRecord)?;
 
@@ -737,7 +752,7 @@ pub fn back(machine: &mut Machine, lent: &mut Lent) -> Result<(), Refusal> {
             _ => lent.picture[start + offset] = record[32 + offset],
         }
     }
-    machine.next = before_next;
+    machine.next = before_next as u16;
     machine.kept -= 1;
     machine.ahead += 1;
     Ok(())

@@ -129,6 +129,8 @@ struct Work {
     /// Lit spots that the steps so far have darkened. Only a drawing adds to it,
     /// so other steps do no work for it.
     went_dark: u64,
+    /// Bytes that the records so far keep. Only steps that keep some add to it.
+    copied: u64,
 }
 
 fn number(bytes: &[u8], at: usize) -> u16 {
@@ -175,6 +177,7 @@ impl Work {
             ahead,
             second_edition: edition == SECOND_EDITION,
             went_dark: 0,
+            copied: 0,
         })
     }
 
@@ -275,6 +278,7 @@ impl Work {
             0x0 => match address {
                 0x0E0 => {
                     head.mark(b"DI", 0, PICTURE);
+                    self.copied += PICTURE as u64;
                     let old = self.record(places, &head);
                     *old = *picture;
                     picture.fill(0);
@@ -361,6 +365,7 @@ impl Work {
                     let row = usize::from(vy & 31);
                     let shown = n.min(ROWS - row);
                     head.mark(b"DI", 8 * row, 8 * shown);
+                    self.copied += 8 * shown as u64;
                     let old = self.record(places, &head);
                     let rows = &mut picture.as_chunks_mut::<8>().0[row..row + shown];
                     // A byte for each row: its spots that were lit under a 1
@@ -416,6 +421,7 @@ impl Work {
                         return PAST_MEMORY;
                     };
                     head.mark(b"ME", i, 3);
+                    self.copied += 3;
                     let old = self.record(places, &head);
                     old[..3].copy_from_slice(bytes);
                     bytes.copy_from_slice(&[vx / 100, vx / 10 % 10, vx % 10]);
@@ -429,6 +435,7 @@ impl Work {
                         return PAST_MEMORY;
                     }
                     head.mark(b"ME", i, x + 1);
+                    self.copied += x as u64 + 1;
                     let old = self.record(places, &head);
                     store(memory, i, x, self.v, old);
                     self.i += x as u16 + 1;
@@ -761,6 +768,7 @@ impl Engine for Tuned {
         work.write(lent.image);
         answer[0] = accepted;
         answer[1] = work.went_dark;
+        answer[2] = work.copied;
         refusal
     }
 

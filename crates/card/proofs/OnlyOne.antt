@@ -10,17 +10,17 @@ use Rattle.card.specs.Card.{answered, LeavesPage, LeavesPanel}
 
 -- a step's first number is read off its refusal number
 pub only-one-step : (c d e : Card) (dark : ℕ) (before x y : List ℕ)
-    → Left c d → x ≡ answered (pick (eqb (d .refusal) 0) 1 0) dark before
-    → Left c e → y ≡ answered (pick (eqb (e .refusal) 0) 1 0) dark before
+    → Left c d → x ≡ answered (pick (eqb (d .refusal) 0) 1 0) dark 0 before
+    → Left c e → y ≡ answered (pick (eqb (e .refusal) 0) 1 0) dark 0 before
     → (d ≡ e) × (x ≡ y)
 only-one-step c d e dark before x y g p h q =
     let same = only-one c d e g h in
-    (same, p ∙ ap (λ (k : Card). answered (pick (eqb (k .refusal) 0) 1 0) dark before) same ∙ sym q)
+    (same, p ∙ ap (λ (k : Card). answered (pick (eqb (k .refusal) 0) 1 0) dark 0 before) same ∙ sym q)
 
-pub only-one-run : (c d e : Card) (accepted dark : ℕ) (before x y : List ℕ)
-    → Left c d → x ≡ answered accepted dark before → Left c e → y ≡ answered accepted dark before
+pub only-one-run : (c d e : Card) (accepted dark copied : ℕ) (before x y : List ℕ)
+    → Left c d → x ≡ answered accepted dark copied before → Left c e → y ≡ answered accepted dark copied before
     → (d ≡ e) × (x ≡ y)
-only-one-run c d e accepted dark before x y g p h q = (only-one c d e g h, p ∙ sym q)
+only-one-run c d e accepted dark copied before x y g p h q = (only-one c d e g h, p ∙ sym q)
 
 pub only-one-page : (n k : ℕ) (image before x y : List ℕ) → LeavesPage n image before x → LeavesPage k image before y → (n ≡ k) × (x ≡ y)
 only-one-page n k image before x y g h = (g .says ∙ sym (h .says), g .bytes ∙ sym (h .bytes))

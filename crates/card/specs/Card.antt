@@ -11,8 +11,9 @@ use Rattle.rules.specs.Refusal.{numberOf}
 use Rattle.rules.specs.Call.{step, tick, back, forward}
 use Rattle.rules.specs.Run.{run}
 use Rattle.rules.specs.Dark.{stepDark, runDark}
+use Rattle.rules.specs.Copied.{runCopied}
 use Rattle.rules.specs.State.{sound}
-use Rattle.stepper.specs.Page.{PageOf}
+use Rattle.page_spots.specs.Page.{PageOf}
 use Rattle.stepper.specs.Dock.{drawRefusal, pageAfter}
 use Rattle.stepper.specs.Dock.{fits as pageFits}
 use Rattle.panel.specs.Panel.{fits, panelRefusal, panelAfter, PanelOf}
@@ -65,13 +66,14 @@ cardPlay moves keys randoms image memory picture history =
     pick (sized image) (playedOn moves keys randoms image memory picture history)
     (untouched (numberOf BufferLength) image memory picture history)
 
--- ---- the answer's four numbers: how many steps were accepted, how many spots they darkened, and two that are kept for what is to come
+-- ---- the answer's four numbers: how many steps were accepted, how many spots they darkened, how many bytes the records of a run keep, and
+-- one that is kept for what is to come
 
 abbrev pub answers : List ℕ → Bool
 answers answer = eqb (length answer) 4
 
-abbrev pub answered : ℕ → ℕ → List ℕ → List ℕ
-answered accepted dark answer = pick (answers answer) (accepted ∷ dark ∷ 0 ∷ 0 ∷ []) answer
+abbrev pub answered : ℕ → ℕ → ℕ → List ℕ → List ℕ
+answered accepted dark copied answer = pick (answers answer) (accepted ∷ dark ∷ copied ∷ 0 ∷ []) answer
 
 unfoldable pub stepWentDark : List ℕ → List ℕ → List ℕ → List ℕ → ℕ
 stepWentDark image memory picture history = pick (sized image) (stepDark (worldOf image memory picture history)) 0
@@ -83,6 +85,10 @@ runAccepted ticks keys randoms image memory picture history =
 unfoldable pub runWentDark : List ℕ → List ℕ → List ℕ → List ℕ → List ℕ → List ℕ → List ℕ → ℕ
 runWentDark ticks keys randoms image memory picture history =
     pick (sized image) (runDark ticks keys randoms (worldOf image memory picture history)) 0
+
+unfoldable pub runHasCopied : List ℕ → List ℕ → List ℕ → List ℕ → List ℕ → List ℕ → List ℕ → ℕ
+runHasCopied ticks keys randoms image memory picture history =
+    pick (sized image) (runCopied ticks keys randoms (worldOf image memory picture history)) 0
 
 -- ---- the promises of the page and of the panel
 

@@ -15,13 +15,13 @@ ghost use Rattle.card.specs.Card as spec;
 const ANSWER: usize = 4;
 
 // All four numbers of an answer; one of another length is left alone.
-fn put_answer(answer: &mut [u64], accepted: u64, dark: u64)
-    ensures { λ _. ⌜ now (answer .exit) ≡ answered accepted dark (now (answer .entry)) ⌝ }
+fn put_answer(answer: &mut [u64], accepted: u64, dark: u64, copied: u64)
+    ensures { λ _. ⌜ now (answer .exit) ≡ answered accepted dark copied (now (answer .entry)) ⌝ }
 {
     if answer.len() == ANSWER {
         answer[0] = accepted;
         answer[1] = dark;
-        answer[2] = 0;
+        answer[2] = copied;
         answer[3] = 0;
     }
 }
@@ -62,18 +62,18 @@ pub extern "C" fn card_step(
         (now (picture .entry)) (now (history .entry))) r (now (image .exit)) (now (memory .exit)) (now (picture .exit))
         (now (history .exit)) ⌝ }
     ensures { λ r. ⌜ now (answer .exit) ≡ answered (pick (eqb r 0) 1 0)
-        (spec.stepWentDark (now (image .entry)) (now (memory .entry)) (now (picture .entry)) (now (history .entry)))
+        (spec.stepWentDark (now (image .entry)) (now (memory .entry)) (now (picture .entry)) (now (history .entry))) 0
         (now (answer .entry)) ⌝ }
 {
     if image.len() != image::IMAGE {
-        put_answer(answer, 0, 0);
+        put_answer(answer, 0, 0, 0);
         return 9;
     }
     if answer.len() != ANSWER {
         return 9;
     }
     let told = imaged::step(image, memory, picture, history, keys, random);
-    put_answer(answer, told.accepted, told.dark);
+    put_answer(answer, told.accepted, told.dark, 0);
     told.number
 }
 
@@ -141,17 +141,19 @@ pub extern "C" fn card_run(
         (spec.runAccepted (now (ticks .entry)) (now (keys .entry)) (now (randoms .entry)) (now (image .entry))
         (now (memory .entry)) (now (picture .entry)) (now (history .entry)))
         (spec.runWentDark (now (ticks .entry)) (now (keys .entry)) (now (randoms .entry)) (now (image .entry))
+        (now (memory .entry)) (now (picture .entry)) (now (history .entry)))
+        (spec.runHasCopied (now (ticks .entry)) (now (keys .entry)) (now (randoms .entry)) (now (image .entry))
         (now (memory .entry)) (now (picture .entry)) (now (history .entry))) (now (answer .entry)) ⌝ }
 {
     if image.len() != image::IMAGE {
-        put_answer(answer, 0, 0);
+        put_answer(answer, 0, 0, 0);
         return 9;
     }
     if answer.len() != ANSWER {
         return 9;
     }
     let told = imaged_lists::run(image, memory, picture, history, ticks, keys, randoms);
-    put_answer(answer, told.accepted, told.dark);
+    put_answer(answer, told.accepted, told.dark, told.copied);
     told.number
 }
 

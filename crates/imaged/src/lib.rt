@@ -23,7 +23,7 @@ use rules::Machine;
 use rules::Outcome;
 use rules::Trail;
 
-// What a step and a run tell besides the bytes: the refusal number or 0, the accepted steps, and the lit spots that they darkened.
+// What a step tells besides the bytes: the refusal number or 0, whether it was accepted, and the lit spots that it darkened.
 pub struct Told {
     pub number: u32,
     pub accepted: u64,

@@ -6,12 +6,21 @@ ghost use Rattle.rules.specs.Number.{pick};
 ghost use Rattle.rules.specs.Refusal as refusal;
 ghost use Rattle.rules.specs.Run as rules_run;
 ghost use Rattle.rules.specs.Dark.{runDark};
+ghost use Rattle.rules.specs.Copied.{runCopied};
 ghost use Rattle.rules.specs.Past.{PlayTells};
 ghost use Rattle.image.specs.Image.{imageSize, inOrder, imageOf};
 ghost use Rattle.imaged.specs.Imaged.{worldOf, ranOn, playedOn, Leaves};
-use imaged::Told;
 use imaged::number;
 use parts::Answer;
+
+// What a run tells besides the bytes: the refusal number or 0, the accepted steps, the lit spots that they darkened, and the bytes that their
+// records keep.
+pub struct Told {
+    pub number: u32,
+    pub accepted: u64,
+    pub dark: u64,
+    pub copied: u64,
+}
 
 // After a run or a play. One that is refused itself hands back the state as it came, so to write that changes no byte; and an image that
 // is not in order, which no call takes, is left.
@@ -47,6 +56,8 @@ pub fn run(
     ensures { λ r. ⌜ (r .accepted ≡ (rules_run.run (now (ticks .entry)) (now (keys .entry)) (now (randoms .entry))
         (worldOf (now (image .entry)) (now (memory .entry)) (now (picture .entry)) (now (history .entry)))) .accepted)
         × (r .dark ≡ runDark (now (ticks .entry)) (now (keys .entry)) (now (randoms .entry))
+        (worldOf (now (image .entry)) (now (memory .entry)) (now (picture .entry)) (now (history .entry))))
+        × (r .copied ≡ runCopied (now (ticks .entry)) (now (keys .entry)) (now (randoms .entry))
         (worldOf (now (image .entry)) (now (memory .entry)) (now (picture .entry)) (now (history .entry)))) ⌝ }
 {
     let before = image::read(image);
@@ -68,6 +79,7 @@ pub fn run(
         number: n,
         accepted: ran.accepted as u64,
         dark: ran.dark as u64,
+        copied: ran.copied as u64,
     }
 }
 

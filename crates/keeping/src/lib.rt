@@ -70,7 +70,7 @@ fn start_of(c: Change) -> u16
     }
 }
 
-fn count_of(c: Change) -> u16
+pub fn count_of(c: Change) -> u16
     ensures { λ r. ⌜ r ≡ count c ⌝ }
 {
     match c {

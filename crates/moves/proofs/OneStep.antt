@@ -18,16 +18,18 @@ use Rattle.rules.specs.declared.Outcome.the-variants.{Done, Refused}
 use Rattle.rules.specs.Number.{unless}
 use Rattle.rules.specs.Refusal.{number}
 use Rattle.rules.specs.Memory.{over}
-use Rattle.rules.specs.Record.{old, recordOf}
+use Rattle.rules.specs.Record.{old, count, recordOf}
 use Rattle.rules.specs.Step.{refusalOf, changeOf, after}
 use Rattle.rules.specs.World.{World, boardOf, places}
 use Rattle.rules.specs.Call.{opAt, step, stepped, stepRefusal, grown}
 use Rattle.rules.specs.Dark.{darkOf, stepDark}
+use Rattle.rules.specs.Copied.{stepCopied}
 use Rattle.rules.specs.Promise.{Gives}
 use Rattle.rules.proofs.Parts.{below-get}
 use Rattle.rules.proofs.Ready.{Ready, ready-fits, ready-soundly, stepped-follows}
 use Rattle.rules.proofs.Undo.{Fits}
 use Rattle.rules.proofs.Follow.{OpFits, decode-fits}
+use Rattle.rules.proofs.Copied.{table-counts, table-few}
 use Rattle.rules.proofs.Given.{Back, given-refused, answered-done, refused-some}
 use Rattle.act.specs.Accepted.{Accepted}
 use Rattle.act.specs.Became.{Became}
@@ -65,10 +67,14 @@ module _ (w : World) (h : Ready w) where
   near-left : m .pc ≤ 4094 → stepRefusal w ≡ refusalOf (opAt (boardOf w)) m
   near-left near = left ∙ rw (le-leb (m .pc) 4094 near)
 
-  -- a refused step darkens nothing
+  -- a refused step darkens nothing, and copies nothing
   refused-dark : (r : Refusal) → number (Refused r) ≡ stepRefusal w → stepDark w ≡ 0
   unfolding stepDark
   refused-dark r e = rw (ne-eqb (stepRefusal w) 0 (λ z. refused-some r (e ∙ z)))
+
+  refused-copied : (r : Refusal) → number (Refused r) ≡ stepRefusal w → stepCopied w ≡ 0
+  unfolding stepCopied
+  refused-copied r e = rw (ne-eqb (stepRefusal w) 0 (λ z. refused-some r (e ∙ z)))
 
   module _ (past : 4094 < m .pc) where
     far-says : number (Refused PcPastEnd) ≡ stepRefusal w
@@ -81,6 +87,9 @@ module _ (w : World) (h : Ready w) where
     pub far-dark : stepDark w ≡ 0
     far-dark = refused-dark PcPastEnd far-says
 
+    pub far-copied : stepCopied w ≡ 0
+    far-copied = refused-copied PcPastEnd far-says
+
   module _ (op : Op) (r : Refusal) (e : op ≡ opAt (boardOf w)) (near : m .pc ≤ 4094) (n : number (Refused r) ≡ refusalOf op m) where
     judged-says : number (Refused r) ≡ stepRefusal w
     judged-says = n ∙ ap (λ (o : Op). refusalOf o m) e ∙ sym (near-left near)
@@ -91,6 +100,9 @@ module _ (w : World) (h : Ready w) where
 
     pub judged-dark : stepDark w ≡ 0
     judged-dark = refused-dark r judged-says
+
+    pub judged-copied : stepCopied w ≡ 0
+    judged-copied = refused-copied r judged-says
 
   -- ---- what its parts ask
 
@@ -128,6 +140,13 @@ module _ (w : World) (h : Ready w) where
     pub step-dark : stepDark w ≡ darkOf op m (w .memory) (w .picture)
     unfolding stepDark
     step-dark = rw (eq-eqb (stepRefusal w) 0 passes, e)
+
+    pub step-copied : stepCopied w ≡ count (changeOf op m)
+    unfolding stepCopied
+    step-copied = rw (eq-eqb (stepRefusal w) 0 passes, ← e) (table-counts op m)
+
+    pub copied-few : count (changeOf op m) ≤ 256
+    copied-few = rw (← table-counts op m) (table-few op m)
 
     -- a pattern has at most fifteen bytes
     pub few-bytes : patternBytes op ≤ 15

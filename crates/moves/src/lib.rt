@@ -9,6 +9,7 @@ ghost use Rattle.rules.specs.World.{world};
 ghost use Rattle.rules.specs.Call as rule;
 ghost use Rattle.rules.specs.Run.{unrefused};
 ghost use Rattle.rules.specs.Dark.{stepDark};
+ghost use Rattle.rules.specs.Copied.{stepCopied};
 ghost use Rattle.rules.specs.Promise.{Gives};
 ghost use Rattle.rules.proofs.Ready.{Ready};
 ghost use Rattle.rules.proofs.Undo.{Fits};
@@ -29,12 +30,13 @@ pub struct Moved {
     pub trail: Trail,
 }
 
-// The same of a step, with the number of lit spots that it darkened.
+// The same of a step, with the number of lit spots that it darkened, and how many bytes its record keeps.
 pub struct Stepped {
     pub outcome: Outcome,
     pub core: Core,
     pub trail: Trail,
     pub dark: usize,
+    pub copied: usize,
 }
 
 // ---- the moves
@@ -79,7 +81,9 @@ pub fn step(
         (now (memory .exit)) (now (picture .exit)) (now (history .exit)) ⌝ }
     ensures { λ r. ⌜ (r .dark ≡ stepDark
         (world (whole c (now (v .entry)) (now (stack .entry))) trail (now (memory .entry)) (now (picture .entry))
-        (now (history .entry)))) × (r .dark ≤ 120) ⌝ }
+        (now (history .entry)))) × (r .dark ≤ 120) × (r .copied ≡ stepCopied
+        (world (whole c (now (v .entry)) (now (stack .entry))) trail (now (memory .entry)) (now (picture .entry))
+        (now (history .entry)))) × (r .copied ≤ 256) ⌝ }
 {
     let at = c.pc as usize;
     if Machine::MEMORY - 2 < at {
@@ -88,6 +92,7 @@ pub fn step(
             core: c,
             trail,
             dark: 0,
+            copied: 0,
         };
     }
     let edition = c.edition;
@@ -99,6 +104,7 @@ pub fn step(
             core: c,
             trail,
             dark: 0,
+            copied: 0,
         };
     };
     let places = judge::places(history);
@@ -121,6 +127,7 @@ pub fn step(
         core,
         trail: trail::grown(trail, places),
         dark: acted.dark,
+        copied: keeping::count_of(change) as usize,
     }
 }
 

@@ -85,10 +85,11 @@ pub struct Stepped {
     pub trail: Trail,
 }
 
-// The same of a run, with the number of accepted steps and the sum of what they darkened.
+// The same of a run, with the number of accepted steps, the sum of what they darkened, and that of the bytes that their records keep.
 pub struct Ran {
     pub accepted: usize,
     pub dark: usize,
+    pub copied: usize,
     pub outcome: Outcome,
     pub machine: Machine,
     pub trail: Trail,

@@ -107,7 +107,7 @@ module _ (m : Machine) (c : Change) (old : List ℕ) (a : Action) (sixteen : len
   start-back : start c < 65536 → wordAt (recordWith m c old a) 28 ≡ start c
   start-back = word-back (recordWith m c old a) 28 (start c) (field 10) (field 11)
 
-  count-back : count c < 65536 → wordAt (recordWith m c old a) 30 ≡ count c
+  pub count-back : count c < 65536 → wordAt (recordWith m c old a) 30 ≡ count c
   count-back = word-back (recordWith m c old a) 30 (count c) (field 12) (field 13)
 
   ends : length old ≡ count c → count c ≤ 256 → Ends (recordWith m c old a) a

@@ -32,7 +32,7 @@ Ahead h r = Chain (λ n b c. Link (part h (292 * n) 292) b c) (nextPlace r)
 
 -- ---- places
 
-before-next : (r n : ℕ) → n < r → placeBefore r (nextPlace r n) ≡ n
+pub before-next : (r n : ℕ) → n < r → placeBefore r (nextPlace r n) ≡ n
 before-next r n h =
     by-test (λ (q : ℕ). placeBefore r q ≡ n) (n + 1) r (λ e. omega arith)
     (λ e. by-test (λ (q : ℕ). q ≡ n) (n + 1) 0 (λ z. omega arith) (λ z. omega arith))

@@ -18,6 +18,15 @@ by-test P a b {x} {y} same other = go (eqb a b) refl
     go true e = same (eqb-true a b e)
     go false e = other (eqb-false a b e)
 
+-- of two that are picked by one test
+pub by-tests : {A B : Type 0} (P : A → B → Type 0) (a b : ℕ) {x y : A} {x′ y′ : B} → (a ≡ b → P x x′) → ((a ≡ b → ⊥) → P y y′)
+    → P (pick (eqb a b) x y) (pick (eqb a b) x′ y′)
+by-tests P a b {x} {y} {x′} {y′} same other = go (eqb a b) refl
+  where
+    go : (t : Bool) → eqb a b ≡ t → P (pick t x y) (pick t x′ y′)
+    go true e = same (eqb-true a b e)
+    go false e = other (eqb-false a b e)
+
 pub and-both : {p q : Bool} → p ≡ true → q ≡ true → (p && q) ≡ true
 and-both a b = rw (a, b)
 

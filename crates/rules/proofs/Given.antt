@@ -38,6 +38,9 @@ module _ (n : ℕ) (new w : World) where
   pub answered-done : n ≡ 0 → answered n new w ≡ record { refusal = 0; world = new }
   answered-done z = by-test (λ (a : Answer). a ≡ record { refusal = 0; world = new }) n 0 (λ e. refl) (λ ne. absurd (ne z))
 
+pub answer-number : (refusal : ℕ) (new w : World) → (answered refusal new w) .refusal ≡ refusal
+answer-number refusal new w = by-test (λ (a : Answer). a .refusal ≡ refusal) refusal 0 (λ e. sym e) (λ ne. refl)
+
 -- ---- the tests 9 and 10, of a world and whatever lists come with it
 
 pub both-passed : (fits sound : Bool) (o : Outcome) → number o ≡ unless fits 9 (unless sound 10 0) → o ≡ Done → (fits ≡ true) × (sound ≡ true)

@@ -1,4 +1,4 @@
--- The laws of choices and lists, the laws of the definitions, and the proofs of what Editions, Twice and Past claim.
+-- The laws of choices and lists, the laws of the definitions, and the proofs of what Editions, Twice, Copied and Past claim.
 pub mod Choices
 pub mod Good
 pub mod Parts
@@ -23,4 +23,5 @@ pub mod Load
 pub mod OnlyOne
 pub mod Given
 pub mod RunsPlay
+pub mod Copied
 pub mod Stays

@@ -15,6 +15,7 @@ use Rattle.rules.specs.World.{World, Answer}
 use Rattle.rules.specs.Call.{step}
 use Rattle.rules.specs.Run.{Ran, run}
 use Rattle.rules.specs.Dark.{stepDark, runDark}
+use Rattle.rules.specs.Copied.{runCopied}
 use Rattle.rules.specs.Promise.{Gives, GivesRun}
 
 refusals : List Refusal
@@ -79,15 +80,17 @@ pub only-one-run : (a : Ran) (n k : ℕ) (r s : Result)
     → (n ≡ k) × (r ≡ s)
 only-one-run a n k r s g h = (g .accepted ∙ sym (h .accepted), only-one (a .answer) r s (g .rest) (h .rest))
 
--- a step and a run also answer how many spots went dark (Q-3)
+-- a step and a run also answer how many spots went dark (Q-3), and a run how many bytes its records keep (Q-13)
 pub only-one-step : (keys random : ℕ) (w : World) (d e : ℕ) (r s : Result)
     → Allowed (step keys random w) r → d ≡ stepDark w → Allowed (step keys random w) s → e ≡ stepDark w
     → (d ≡ e) × (r ≡ s)
 only-one-step keys random w d e r s g p h q = (p ∙ sym q, only-one (step keys random w) r s g h)
 
-pub only-one-ran : (ticks keys randoms : List ℕ) (w : World) (d e n k : ℕ) (r s : Result) → let a = run ticks keys randoms w in
-    GivesRun a n (r .outcome) (r .machine) (r .trail) (r .memory) (r .picture) (r .history) → d ≡ runDark ticks keys randoms w
-    → GivesRun a k (s .outcome) (s .machine) (s .trail) (s .memory) (s .picture) (s .history) → e ≡ runDark ticks keys randoms w
-    → (d ≡ e) × (n ≡ k) × (r ≡ s)
-only-one-ran ticks keys randoms w d e n k r s g p h q =
-    let (same, all) = only-one-run (run ticks keys randoms w) n k r s g h in (p ∙ sym q, same, all)
+pub only-one-ran : (ticks keys randoms : List ℕ) (w : World) (d e c f n k : ℕ) (r s : Result) → let a = run ticks keys randoms w in
+    GivesRun a n (r .outcome) (r .machine) (r .trail) (r .memory) (r .picture) (r .history)
+    → d ≡ runDark ticks keys randoms w → c ≡ runCopied ticks keys randoms w
+    → GivesRun a k (s .outcome) (s .machine) (s .trail) (s .memory) (s .picture) (s .history)
+    → e ≡ runDark ticks keys randoms w → f ≡ runCopied ticks keys randoms w
+    → (d ≡ e) × (c ≡ f) × (n ≡ k) × (r ≡ s)
+only-one-ran ticks keys randoms w d e c f n k r s g p x h q y =
+    let (same, all) = only-one-run (run ticks keys randoms w) n k r s g h in (p ∙ sym q, x ∙ sym y, same, all)

@@ -28,6 +28,7 @@ use Rattle.rules.proofs.Good.{GoodBoard}
 use Rattle.rules.proofs.Parts.{part-over-same, put-back}
 use Rattle.rules.proofs.Undo.{Restores}
 use Rattle.rules.proofs.Link.{Link, leads-good, restores, kind-known, again}
+use Rattle.rules.proofs.Given.{answer-number}
 use Rattle.rules.proofs.Chain.{Behind, Ahead, done, push-behind, push-ahead, pop, chain-less, round, chain-over}
 use Rattle.rules.proofs.Ready.{Ready, start-ready, ready-fits, ready-soundly, next-below, before-below, record-sized, as-long, acted-ready, step-own}
 
@@ -256,9 +257,6 @@ module _ (r : ℕ) (w : World) (p : Past) (hold : Holds r w p) where
   move-holds aTick typed = settled (tickRefusal w) (ticked w) (noted r aTick p) (λ e. act-holds Tick typed refl)
   move-holds aBack typed = settled (backRefusal w) (undone (lastRecord w) w) (noted r aBack p) back-holds
   move-holds aForward typed = settled (forwardRefusal w) (redone (actionAt (nextRecord w)) w) (noted r aForward p) forward-holds
-
-answer-number : (refusal : ℕ) (new w : World) → (answered refusal new w) .refusal ≡ refusal
-answer-number refusal new w = by-test (λ (a : Answer). a .refusal ≡ refusal) refusal 0 (λ e. sym e) (λ ne. refl)
 
 told : (r : ℕ) (w : World) (p : Past) → Holds r w p → Told r w p
 unfolding back forward

@@ -1,6 +1,6 @@
 -- Request Q-3: how many lit spots went dark, in a step and in a run.
-use mathlib.Core.List.{List, [], _∷_}
-use Prim.Native.Nat.{ℕ, _+_}
+use mathlib.Core.List.{List}
+use Prim.Native.Nat.{ℕ}
 use lib.Dec.{eqb}
 use Rattle.rules.specs.declared.Machine.{Machine}
 use Rattle.rules.specs.declared.Op.{Op}
@@ -11,8 +11,8 @@ use Rattle.rules.specs.Memory.{part}
 use Rattle.rules.specs.Picture.{darkened}
 use Rattle.rules.specs.Step.{column, row}
 use Rattle.rules.specs.World.{World, boardOf}
-use Rattle.rules.specs.Call.{opAt, step, stepRefusal}
-use Rattle.rules.specs.Run.{tickedBy, runRefusal}
+use Rattle.rules.specs.Call.{opAt, stepRefusal}
+use Rattle.rules.specs.Run.{total}
 
 -- a drawing darkens spots, and no other instruction does, not even 00E0
 unfoldable pub darkOf : Op → Machine → List ℕ → List ℕ → ℕ
@@ -33,13 +33,5 @@ unfoldable pub stepDark : World → ℕ
 stepDark w = pick (eqb (stepRefusal w) 0) (darkOf (opAt (boardOf w)) (w .machine) (w .memory) (w .picture)) 0
 
 -- the number that a run answers: the sum over its accepted steps, entry by entry
-unfoldable pub runDarkFrom : List ℕ → List ℕ → List ℕ → World → ℕ
-runDarkFrom (t ∷ ts) (k ∷ ks) (r ∷ rs) w =
-    let a = step k r (tickedBy t w) in
-    pick (eqb (a .refusal) 0) (stepDark (tickedBy t w) + runDarkFrom ts ks rs (a .world)) 0
-runDarkFrom [] ks rs w = 0
-runDarkFrom (t ∷ ts) [] rs w = 0
-runDarkFrom (t ∷ ts) (k ∷ ks) [] w = 0
-
-unfoldable pub runDark : List ℕ → List ℕ → List ℕ → World → ℕ
-runDark ticks keys randoms w = pick (eqb (runRefusal ticks keys randoms w) 0) (runDarkFrom ticks keys randoms w) 0
+abbrev pub runDark : List ℕ → List ℕ → List ℕ → World → ℕ
+runDark = total stepDark

@@ -1,5 +1,5 @@
--- The rules of document 01 as definitions, and what is claimed of them: Cases, Button, Editions, Twice, Past and Promise. Read them in this
--- order; the proofs are in proofs/.
+-- The rules of document 01 as definitions, and what is claimed of them: Cases, Button, Copied, Editions, Twice, Past and Promise. Read them
+-- in this order; the proofs are in proofs/.
 pub mod Number
 pub mod Refusal
 pub mod State
@@ -17,6 +17,7 @@ pub mod Dark
 pub mod Cases
 pub mod Button
 pub mod Typed
+pub mod Copied
 pub mod Editions
 pub mod Twice
 pub mod Past

@@ -50,6 +50,20 @@ run ticks keys randoms w =
     let refusal = runRefusal ticks keys randoms w in
     pick (eqb refusal 0) (runFrom 0 ticks keys randoms w) (record { accepted = 0; answer = record { refusal = refusal; world = w } })
 
+-- ---- a number that a run answers: each accepted step adds what is said of it, at the world in which it is made; ticks add nothing
+
+unfoldable pub totalFrom : (World → ℕ) → List ℕ → List ℕ → List ℕ → World → ℕ
+totalFrom each (t ∷ ts) (k ∷ ks) (r ∷ rs) w =
+    let a = step k r (tickedBy t w) in
+    pick (eqb (a .refusal) 0) (each (tickedBy t w) + totalFrom each ts ks rs (a .world)) 0
+totalFrom each [] ks rs w = 0
+totalFrom each (t ∷ ts) [] rs w = 0
+totalFrom each (t ∷ ts) (k ∷ ks) [] w = 0
+
+-- 0 where the run itself is refused
+unfoldable pub total : (World → ℕ) → List ℕ → List ℕ → List ℕ → World → ℕ
+total each ticks keys randoms w = pick (eqb (runRefusal ticks keys randoms w) 0) (totalFrom each ticks keys randoms w) 0
+
 -- ---- a play
 
 pub data Move : Type 0 where

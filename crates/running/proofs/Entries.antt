@@ -3,6 +3,7 @@ use mathlib.Core.Path.{_≡_, refl, sym, _∙_}
 use mathlib.Core.Bool.{true, _&&_, and-eq-true-iff}
 use mathlib.Core.List.{List, [], _∷_}
 use Prim.Native.Nat.{ℕ, _+_, _*_, _≤_, _<_}
+use native.Mathlib.Nat.{mul-suc}
 use native.Mathlib.Numerals.{add-one}
 use native.Mathlib.Omega.{arith}
 use lib.ListN.{length, drop, getD, drop-of-length-le}
@@ -17,8 +18,9 @@ use Rattle.rules.specs.Number.{pick}
 use Rattle.rules.specs.Refusal.{number}
 use Rattle.rules.specs.World.{World, Answer, world}
 use Rattle.rules.specs.Call.{step, stepRefusal}
-use Rattle.rules.specs.Run.{Ran, tickedBy, runFrom, listsFit, run, runRefusal}
-use Rattle.rules.specs.Dark.{stepDark, runDarkFrom, runDark}
+use Rattle.rules.specs.Run.{Ran, tickedBy, runFrom, totalFrom, total, listsFit, run, runRefusal}
+use Rattle.rules.specs.Dark.{stepDark}
+use Rattle.rules.specs.Copied.{stepCopied}
 use Rattle.rules.specs.Promise.{Gives, GivesRun}
 use Rattle.rules.proofs.Choices.{by-test}
 use Rattle.rules.proofs.Given.{tests, handed, refused-some}
@@ -43,32 +45,86 @@ lists-same first keys randoms e =
 pub drop-next : (l : List ℕ) (i : ℕ) → i < length l → drop i l ≡ getD l i 0 ∷ drop (i + 1) l
 drop-next l i h = rw add-one (drop-cons l i 0 h)
 
--- after i entries, which darkened so many spots
-pub record Running (ticks keys randoms : List ℕ) (w₀ w : World) (i dark : ℕ) : Type 0 where
+-- ---- a number that the entries add up to
+
+-- n after i entries, each of which added at most so much; and what is still to be added gives the same sum
+pub record Sums (each : World → ℕ) (most : ℕ) (ticks keys randoms : List ℕ) (w₀ w : World) (i n : ℕ) : Type 0 where
+  pub sum : n + totalFrom each (drop i ticks) (drop i keys) (drop i randoms) w ≡ totalFrom each ticks keys randoms w₀
+  pub few : n ≤ most * i
+
+-- the step of entry i, and the world that its ticks lead to
+abbrev ticksOf : List ℕ → World → ℕ → World
+ticksOf ticks w i = tickedBy (getD ticks i 0) w
+
+abbrev entryOf : List ℕ → List ℕ → List ℕ → World → ℕ → Answer
+entryOf ticks keys randoms w i = step (getD keys i 0) (getD randoms i 0) (ticksOf ticks w i)
+
+module _ (each : World → ℕ) (most : ℕ) (ticks keys randoms : List ℕ) (w₀ w : World) (i n : ℕ) (h : Sums each most ticks keys randoms w₀ w i n) where
+  sum-ended : length ticks ≤ i → n ≡ totalFrom each ticks keys randoms w₀
+  unfolding totalFrom
+  sum-ended past = omega (arith, rw (drop-of-length-le ticks {i = i} past) at (h .sum))
+
+  module _ (lists : SameLength ticks keys randoms) (more : i < length ticks) where
+    abbrev made : Answer
+    made = entryOf ticks keys randoms w i
+
+    opened-sum : n + pick (eqb (made .refusal) 0)
+        (each (ticksOf ticks w i) + totalFrom each (drop (i + 1) ticks) (drop (i + 1) keys) (drop (i + 1) randoms) (made .world)) 0
+        ≡ totalFrom each ticks keys randoms w₀
+    unfolding totalFrom
+    opened-sum =
+        rw (drop-next ticks i more, drop-next keys i (omega (arith, lists .keys)), drop-next randoms i (omega (arith, lists .randoms))) at (h .sum)
+
+    sum-on : (v : World) (d : ℕ) → made .refusal ≡ 0 → v ≡ made .world → d ≡ each (ticksOf ticks w i) → d ≤ most
+        → Sums each most ticks keys randoms w₀ v (i + 1) (n + d)
+    sum-on v d z at e l =
+        let one : most * (i + 1) ≡ most * i + most = rw (add-one i) (mul-suc most i) in
+        record { sum = rw (at, e) (omega (arith, rw (eq-eqb (made .refusal) 0 z) at opened-sum)); few = omega (arith, h .few, one) }
+
+    sum-stopped : (made .refusal ≡ 0 → ⊥) → n ≡ totalFrom each ticks keys randoms w₀
+    sum-stopped ne = omega (arith, rw (ne-eqb (made .refusal) 0 ne) at opened-sum)
+
+-- ---- after i entries, which darkened so many spots and copied so many bytes
+
+pub record Running (ticks keys randoms : List ℕ) (w₀ w : World) (i dark copied : ℕ) : Type 0 where
   pub lists : SameLength ticks keys randoms
   pub inside : i ≤ length ticks
   pub ready : Ready w
   pub same : runFrom i (drop i ticks) (drop i keys) (drop i randoms) w ≡ runFrom 0 ticks keys randoms w₀
-  pub sum : dark + runDarkFrom (drop i ticks) (drop i keys) (drop i randoms) w ≡ runDarkFrom ticks keys randoms w₀
-  pub few : dark ≤ 120 * i
+  pub spots : Sums stepDark 120 ticks keys randoms w₀ w i dark
+  pub bytes : Sums stepCopied 256 ticks keys randoms w₀ w i copied
 
-pub started : (ticks keys randoms : List ℕ) (w : World) → SameLength ticks keys randoms → Ready w → Running ticks keys randoms w w 0 0
-started ticks keys randoms w s h = record { lists = s; inside = omega arith; ready = h; same = refl; sum = omega arith; few = omega arith }
+pub started : (ticks keys randoms : List ℕ) (w : World) → SameLength ticks keys randoms → Ready w → Running ticks keys randoms w w 0 0 0
+started ticks keys randoms w s h =
+    record {
+      lists = s;
+      inside = omega arith;
+      ready = h;
+      same = refl;
+      spots = record { sum = omega arith; few = omega arith };
+      bytes = record { sum = omega arith; few = omega arith };
+    }
 
-module _ (ticks keys randoms : List ℕ) (w₀ w : World) (i dark : ℕ) (h : Running ticks keys randoms w₀ w i dark) where
+-- the two numbers where a run ends
+abbrev pub Totals : List ℕ → List ℕ → List ℕ → World → ℕ → ℕ → Type 0
+Totals ticks keys randoms w₀ dark copied = (dark ≡ totalFrom stepDark ticks keys randoms w₀) × (copied ≡ totalFrom stepCopied ticks keys randoms w₀)
+
+module _ (ticks keys randoms : List ℕ) (w₀ w : World) (i dark copied : ℕ) (h : Running ticks keys randoms w₀ w i dark copied) where
   pub ended : length ticks ≤ i → GivesRun (runFrom 0 ticks keys randoms w₀) i Done (w .machine) (w .trail) (w .memory) (w .picture) (w .history)
   unfolding runFrom
   ended past =
       rw (← h .same, drop-of-length-le ticks {i = i} past)
       (record { accepted = refl; rest = world-gives w w refl })
 
-  pub ended-dark : length ticks ≤ i → dark ≡ runDarkFrom ticks keys randoms w₀
-  unfolding runDarkFrom
-  ended-dark past = omega (arith, rw (drop-of-length-le ticks {i = i} past) at (h .sum))
+  pub ended-totals : length ticks ≤ i → Totals ticks keys randoms w₀ dark copied
+  ended-totals past = (
+    sum-ended stepDark 120 ticks keys randoms w₀ w i dark (h .spots) past,
+    sum-ended stepCopied 256 ticks keys randoms w₀ w i copied (h .bytes) past,
+  )
 
   module _ (more : i < length ticks) where
     abbrev entry : Answer
-    entry = step (getD keys i 0) (getD randoms i 0) (tickedBy (getD ticks i 0) w)
+    entry = entryOf ticks keys randoms w i
 
     abbrev Chosen : Ran
     Chosen = pick (eqb (entry .refusal) 0) (runFrom (i + 1) (drop (i + 1) ticks) (drop (i + 1) keys) (drop (i + 1) randoms) (entry .world))
@@ -79,28 +135,19 @@ module _ (ticks keys randoms : List ℕ) (w₀ w : World) (i dark : ℕ) (h : Ru
     opened =
         rw (drop-next ticks i more, drop-next keys i (omega (arith, h .lists .keys)), drop-next randoms i (omega (arith, h .lists .randoms))) at (h .same)
 
-    -- what the entry darkens, where its step is accepted
-    abbrev put-out : ℕ
-    put-out = stepDark (tickedBy (getD ticks i 0) w)
-
-    opened-dark : dark + pick (eqb (entry .refusal) 0)
-        (put-out + runDarkFrom (drop (i + 1) ticks) (drop (i + 1) keys) (drop (i + 1) randoms) (entry .world)) 0
-        ≡ runDarkFrom ticks keys randoms w₀
-    unfolding runDarkFrom
-    opened-dark =
-        rw (drop-next ticks i more, drop-next keys i (omega (arith, h .lists .keys)), drop-next randoms i (omega (arith, h .lists .randoms))) at (h .sum)
-
-    pub went-on : (m : Machine) (t : Trail) (mem pic his : List ℕ) (d : ℕ) → Gives entry Done m t mem pic his
-        → d ≡ put-out → d ≤ 120 → Running ticks keys randoms w₀ (world m t mem pic his) (i + 1) (dark + d)
-    went-on m t mem pic his d g e l =
+    pub went-on : (m : Machine) (t : Trail) (mem pic his : List ℕ) (d k : ℕ) → Gives entry Done m t mem pic his
+        → d ≡ stepDark (ticksOf ticks w i) → d ≤ 120 → k ≡ stepCopied (ticksOf ticks w i) → k ≤ 256
+        → Running ticks keys randoms w₀ (world m t mem pic his) (i + 1) (dark + d) (copied + k)
+    went-on m t mem pic his d k g e l f s =
         let at = gives-world entry Done m t mem pic his g in
+        let done = sym (g .says) in
         record {
           lists = h .lists;
           inside = omega arith;
           ready = rw at (step-ready (tickedBy (getD ticks i 0) w) (ticks-ready (getD ticks i 0) w (h .ready)) (getD keys i 0) (getD randoms i 0));
-          same = rw at (rw (eq-eqb (entry .refusal) 0 (sym (g .says))) at opened);
-          sum = rw (at, e) (omega (arith, rw (eq-eqb (entry .refusal) 0 (sym (g .says))) at opened-dark));
-          few = omega (arith, h .few);
+          same = rw at (rw (eq-eqb (entry .refusal) 0 done) at opened);
+          spots = sum-on stepDark 120 ticks keys randoms w₀ w i dark (h .spots) (h .lists) more _ d done at e l;
+          bytes = sum-on stepCopied 256 ticks keys randoms w₀ w i copied (h .bytes) (h .lists) more _ k done at f s;
         }
 
     pub stopped : (r : Refusal) (m : Machine) (t : Trail) (mem pic his : List ℕ) → Gives entry (Refused r) m t mem pic his
@@ -110,10 +157,13 @@ module _ (ticks keys randoms : List ℕ) (w₀ w : World) (i dark : ℕ) (h : Ru
         let last = rw some at opened in
         rw (← last) (record { accepted = refl; rest = g })
 
-    pub stopped-dark : (r : Refusal) (m : Machine) (t : Trail) (mem pic his : List ℕ) → Gives entry (Refused r) m t mem pic his
-        → dark ≡ runDarkFrom ticks keys randoms w₀
-    stopped-dark r m t mem pic his g =
-        omega (arith, rw (ne-eqb (entry .refusal) 0 (λ z. refused-some r (g .says ∙ z))) at opened-dark)
+    pub stopped-totals : (r : Refusal) (m : Machine) (t : Trail) (mem pic his : List ℕ) → Gives entry (Refused r) m t mem pic his
+        → Totals ticks keys randoms w₀ dark copied
+    stopped-totals r m t mem pic his g =
+        let some : entry .refusal ≡ 0 → ⊥ = λ z. refused-some r (g .says ∙ z) in (
+          sum-stopped stepDark 120 ticks keys randoms w₀ w i dark (h .spots) (h .lists) more some,
+          sum-stopped stepCopied 256 ticks keys randoms w₀ w i copied (h .bytes) (h .lists) more some,
+        )
 
 -- ---- the call
 
@@ -125,15 +175,15 @@ run-refused ticks keys randoms w r e =
     rw (ne-eqb refusal 0 (λ z. refused-some r (e ∙ z)))
     (record { accepted = refl; rest = handed refusal w (Refused r) e })
 
-pub run-refused-dark : (ticks keys randoms : List ℕ) (w : World) (r : Refusal) → number (Refused r) ≡ tests w (listsFit ticks keys randoms)
-    → runDark ticks keys randoms w ≡ 0
-unfolding runDark runRefusal
-run-refused-dark ticks keys randoms w r e = rw (ne-eqb (runRefusal ticks keys randoms w) 0 (λ z. refused-some r (e ∙ z)))
+-- a number that it answers
+module _ (each : World → ℕ) (ticks keys randoms : List ℕ) (w : World) where
+  pub run-refused-totals : (r : Refusal) → number (Refused r) ≡ tests w (listsFit ticks keys randoms) → total each ticks keys randoms w ≡ 0
+  unfolding total runRefusal
+  run-refused-totals r e = rw (ne-eqb (runRefusal ticks keys randoms w) 0 (λ z. refused-some r (e ∙ z)))
 
-pub run-admitted-dark : (ticks keys randoms : List ℕ) (w : World) → tests w (listsFit ticks keys randoms) ≡ 0
-    → runDark ticks keys randoms w ≡ runDarkFrom ticks keys randoms w
-unfolding runDark runRefusal
-run-admitted-dark ticks keys randoms w e = rw (eq-eqb (runRefusal ticks keys randoms w) 0 e)
+  pub run-admitted-totals : tests w (listsFit ticks keys randoms) ≡ 0 → total each ticks keys randoms w ≡ totalFrom each ticks keys randoms w
+  unfolding total runRefusal
+  run-admitted-totals e = rw (eq-eqb (runRefusal ticks keys randoms w) 0 e)
 
 pub run-admitted : (ticks keys randoms : List ℕ) (w : World) → tests w (listsFit ticks keys randoms) ≡ 0
     → run ticks keys randoms w ≡ runFrom 0 ticks keys randoms w

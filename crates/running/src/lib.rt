@@ -5,9 +5,10 @@ ghost use mathlib.Core.List.{List};
 ghost use Prim.Native.Nat.{ℕ, _*_, _≤_};
 ghost use Rattle.rules.specs.World.{world};
 ghost use Rattle.rules.specs.Call as rule;
-ghost use Rattle.rules.specs.Run.{tickedBy, runFrom, unrefused, listsFit};
+ghost use Rattle.rules.specs.Run.{tickedBy, runFrom, totalFrom, unrefused, listsFit};
 ghost use Rattle.rules.specs.Run as runs;
-ghost use Rattle.rules.specs.Dark.{stepDark, runDarkFrom, runDark};
+ghost use Rattle.rules.specs.Dark.{stepDark, runDark};
+ghost use Rattle.rules.specs.Copied.{stepCopied, runCopied};
 ghost use Rattle.rules.specs.Promise.{Gives, GivesRun};
 ghost use Rattle.rules.proofs.Ready.{Ready};
 ghost use Rattle.parts.specs.Whole.{whole};
@@ -76,7 +77,10 @@ fn entry(
     ensures { λ r. ⌜ (r .dark ≡ stepDark
         (tickedBy ticks
         (world (whole c (now (v .entry)) (now (stack .entry))) trail (now (memory .entry)) (now (picture .entry))
-        (now (history .entry))))) × (r .dark ≤ 120) ⌝ }
+        (now (history .entry))))) × (r .dark ≤ 120) × (r .copied ≡ stepCopied
+        (tickedBy ticks
+        (world (whole c (now (v .entry)) (now (stack .entry))) trail (now (memory .entry)) (now (picture .entry))
+        (now (history .entry))))) × (r .copied ≤ 256) ⌝ }
 {
     let ticked = ticks_of(c, v, stack, trail, history, ticks);
     let core = ticked.core;
@@ -88,17 +92,19 @@ fn entry(
 fn ran(
     accepted: usize,
     dark: usize,
+    copied: usize,
     outcome: Outcome,
     c: Core,
     v: [u8; 16],
     stack: [u16; Machine::STACK],
     trail: Trail,
 ) -> Ran
-    ensures { λ r. ⌜ r ≡ record { accepted = accepted; dark = dark; outcome = outcome; machine = whole c v stack; trail = trail } ⌝ }
+    ensures { λ r. ⌜ r ≡ record { accepted = accepted; dark = dark; copied = copied; outcome = outcome; machine = whole c v stack; trail = trail } ⌝ }
 {
     Ran {
         accepted,
         dark,
+        copied,
         outcome,
         machine: parts::whole(c, v, stack),
         trail,
@@ -122,15 +128,18 @@ fn run_ready(
         (runFrom 0 (now (ticks .entry)) (now (keys .entry)) (now (randoms .entry))
         (world machine trail (now (memory .entry)) (now (picture .entry)) (now (history .entry)))) (r .accepted) (r .outcome)
         (r .machine) (r .trail) (now (memory .exit)) (now (picture .exit)) (now (history .exit)) ⌝ }
-    ensures { λ r. ⌜ (r .dark ≡ runDarkFrom (now (ticks .entry)) (now (keys .entry)) (now (randoms .entry))
+    ensures { λ r. ⌜ (r .dark ≡ totalFrom stepDark (now (ticks .entry)) (now (keys .entry)) (now (randoms .entry))
         (world machine trail (now (memory .entry)) (now (picture .entry)) (now (history .entry))))
-        × (r .dark ≤ 120 * r .accepted) ⌝ }
+        × (r .dark ≤ 120 * r .accepted) × (r .copied ≡ totalFrom stepCopied (now (ticks .entry)) (now (keys .entry))
+        (now (randoms .entry)) (world machine trail (now (memory .entry)) (now (picture .entry)) (now (history .entry))))
+        × (r .copied ≤ 256 * r .accepted) ⌝ }
 {
     let mut v = machine.v;
     let mut stack = machine.stack;
     let mut c = parts::core_of(machine);
     let mut t = trail;
     let mut dark = 0;
+    let mut copied = 0;
     let mut i = 0;
     while i < ticks.len() {
         let moved = entry(
@@ -151,12 +160,13 @@ fn run_ready(
         t = next_trail;
         let outcome = moved.outcome;
         let Outcome::Done = outcome else {
-            return ran(i, dark, outcome, c, v, stack, t);
+            return ran(i, dark, copied, outcome, c, v, stack, t);
         };
         dark += moved.dark;
+        copied += moved.copied;
         i += 1;
     }
-    ran(i, dark, Outcome::Done, c, v, stack, t)
+    ran(i, dark, copied, Outcome::Done, c, v, stack, t)
 }
 
 // For each entry makes the ticks, then a step, up to the first step that is refused.
@@ -176,7 +186,9 @@ pub fn run(
         (r .machine) (r .trail) (now (memory .exit)) (now (picture .exit)) (now (history .exit)) ⌝ }
     ensures { λ r. ⌜ (r .dark ≡ runDark (now (ticks .entry)) (now (keys .entry)) (now (randoms .entry))
         (world machine trail (now (memory .entry)) (now (picture .entry)) (now (history .entry))))
-        × (r .dark ≤ 120 * r .accepted) ⌝ }
+        × (r .dark ≤ 120 * r .accepted) × (r .copied ≡ runCopied (now (ticks .entry)) (now (keys .entry)) (now (randoms .entry))
+        (world machine trail (now (memory .entry)) (now (picture .entry)) (now (history .entry))))
+        × (r .copied ≤ 256 * r .accepted) ⌝ }
 {
     let lists = judge::lists_fit(ticks.len(), keys.len(), randoms.len());
     let outcome = judge::admitted(machine, trail, memory, picture, history, lists);
@@ -184,6 +196,7 @@ pub fn run(
         return Ran {
             accepted: 0,
             dark: 0,
+            copied: 0,
             outcome,
             machine,
             trail,

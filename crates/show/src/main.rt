@@ -21,6 +21,7 @@ fn run(program: &[u8], picture: &mut [u8]) -> Ran {
         return Ran {
             accepted: 0,
             dark: 0,
+            copied: 0,
             outcome,
             machine,
             trail,

@@ -12,8 +12,8 @@ use Rattle.rules.specs.declared.Outcome.{Outcome}
 use Rattle.rules.specs.Number.{pick}
 use Rattle.rules.specs.World.{World, Answer, buffersFit, soundly}
 use Rattle.rules.specs.Call.{step, stepRefusal}
-use Rattle.rules.specs.Run.{Ran, runFrom, run, runRefusal}
-use Rattle.rules.specs.Dark.{stepDark, runDarkFrom, runDark}
+use Rattle.rules.specs.Run.{Ran, runFrom, run, runRefusal, totalFrom, total}
+use Rattle.rules.specs.Dark.{stepDark, runDark}
 use Rattle.rules.specs.Promise.{Gives}
 use Rattle.rules.proofs.Choices.{by-test}
 use Rattle.rules.proofs.Given.{tests, settled}
@@ -30,8 +30,8 @@ module _ (keys random : ℕ) (w : World) where
       let a = step keys random w in
       by-test (λ (r : Ran). r .answer ≡ a) (a .refusal) 0 (λ z i. record { refusal = sym z i; world = a .world }) (λ ne. refl)
 
-  entry-dark : runDarkFrom (0 ∷ []) (keys ∷ []) (random ∷ []) w ≡ stepDark w
-  unfolding runDarkFrom stepDark step
+  entry-dark : totalFrom stepDark (0 ∷ []) (keys ∷ []) (random ∷ []) w ≡ stepDark w
+  unfolding totalFrom stepDark step
   entry-dark =
       by-test (λ (a : Answer). pick (eqb (a .refusal) 0) (stepDark w + 0) 0 ≡ stepDark w) (stepRefusal w) 0 (λ z. omega arith)
       (λ ne. rw (ne-eqb (stepRefusal w) 0 ne))
@@ -51,7 +51,7 @@ module _ (keys random : ℕ) (w : World) where
   alone-gives o m t mem pic his g = rw alone at g
 
   pub alone-dark : runDark (0 ∷ []) (keys ∷ []) (random ∷ []) w ≡ stepDark w
-  unfolding runDark runRefusal stepDark
+  unfolding total runRefusal stepDark
   alone-dark =
       by-test (λ (n : ℕ). n ≡ stepDark w) (tests w true) 0 (λ z. entry-dark)
       (λ ne. rw (same-refusal ne, ne-eqb (tests w true) 0 ne))

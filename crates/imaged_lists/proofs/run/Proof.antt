@@ -22,7 +22,7 @@ returns c =
           (below-of (a .image .now) (λ i h. (lent .slice-known .given i) .fits)) refusal answer
           (run-sound (a .ticks .now) (a .keys .now) (a .randoms .now) w) (run-left (a .ticks .now) (a .keys .now) (a .randoms .now) w)
           _ _ _ _ _ _ _ _ (ran .0 .rest) (after .0) (after .1),
-      (ran .0 .accepted, ran .1 .0),
+      (ran .0 .accepted, ran .1 .0, ran .1 .2),
     )
 
 pub run-spec : {M : Type 1} → statement M

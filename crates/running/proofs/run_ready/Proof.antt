@@ -6,19 +6,19 @@ use borrow.Author.Needs.{needs}
 use lib.ListN.{length}
 use Rattle.rules.specs.World.{world}
 use Rattle.parts.specs.Whole.{whole}
-use Rattle.running.proofs.Entries.{Running, lists-same, started, ended, ended-dark, went-on, stopped, stopped-dark}
+use Rattle.running.proofs.Entries.{Running, lists-same, started, ended, ended-totals, went-on, stopped, stopped-totals}
 use Rattle.running.proofs.run_ready.Statement.{statement}
 use Rattle.running.proofs.run_ready.Tie as tie
 
 abbrev Inv-loop : tie.InvT-loop
-Inv-loop memory₀ picture₀ history₀ ticks keys randoms v₀ stack₀ c₀ t₀ dark₀ i₀ memory picture history v stack c t dark i =
+Inv-loop memory₀ picture₀ history₀ ticks keys randoms v₀ stack₀ c₀ t₀ dark₀ copied₀ i₀ memory picture history v stack c t dark copied i =
     (length memory ≡ length memory₀)
     × (length picture ≡ length picture₀)
     × (length history ≡ length history₀)
-    × Running ticks keys randoms (world (whole c₀ v₀ stack₀) t₀ memory₀ picture₀ history₀) (world (whole c v stack) t memory picture history) i dark
+    × Running ticks keys randoms (world (whole c₀ v₀ stack₀) t₀ memory₀ picture₀ history₀) (world (whole c v stack) t memory picture history) i dark copied
 
 abbrev μ-loop : tie.MeasureT-loop
-μ-loop memory₀ picture₀ history₀ ticks keys randoms v₀ stack₀ c₀ t₀ dark₀ i₀ memory picture history v stack c t dark i = length ticks - i
+μ-loop memory₀ picture₀ history₀ ticks keys randoms v₀ stack₀ c₀ t₀ dark₀ copied₀ i₀ memory picture history v stack c t dark copied i = length ticks - i
 
 loop-holds : tie.Need-loop-holds Inv-loop μ-loop
 loop-holds c =
@@ -47,29 +47,34 @@ returns c =
     let inv = c .before .before .before .before .before .before .before .before .before .before .before .before .before .before .before .before .before .before .before .before .before .loop .inv .3 in
     let more = c .before .before .before .before .before .before .before .before .before .before .before .before .before .before .before .before .before .before .before .before .loop-test .taken in
     let entry = rw refused at (c .before .before .before .before .before .before .before .before .before .before .before .entry .ensures .0) in
-    rw (c .ran .ensures, refused, ← c .before .before .before .before .before .before .before .before .before .before .before .before .before .before .before .before .before .before .before .before .before .before .core-of .ensures)
-    (stopped _ _ _ _ _ _ _ inv more _ _ _ _ _ _ entry, (stopped-dark _ _ _ _ _ _ _ inv more _ _ _ _ _ _ entry, inv .few))
+    let totals = stopped-totals _ _ _ _ _ _ _ _ inv more _ _ _ _ _ _ entry in
+    rw (c .ran .ensures, refused, ← c .before .before .before .before .before .before .before .before .before .before .before .before .before .before .before .before .before .before .before .before .before .before .core-of .ensures) (
+      stopped _ _ _ _ _ _ _ _ inv more _ _ _ _ _ _ entry,
+      (totals .0, inv .spots .few, totals .1, inv .bytes .few),
+    )
 
 loop-again : tie.Need-loop-again Inv-loop μ-loop
 loop-again c =
-    let entry = c .before .before .before .before .before .before .before .before .before .before .before .entry .ensures in (
-      memory-length (c .before .before .before .before .before .before .before .before .before .before .before),
-      picture-length (c .before .before .before .before .before .before .before .before .before .before .before),
-      history-length (c .before .before .before .before .before .before .before .before .before .before .before),
-      went-on _ _ _ _ _ _ _ (c .before .before .before .before .before .before .before .before .before .before .before .before .before .before .before .before .before .before .before .before .before .loop .inv .3) (c .before .before .before .before .before .before .before .before .before .before .before .before .before .before .before .before .before .before .before .before .loop-test .taken) _ _ _ _ _ _ (rw (c .before .enum-told .given .1) at (entry .0)) (entry .1 .0) (entry .1 .1),
+    let entry = c .before .before .before .before .before .before .before .before .before .before .before .before .entry .ensures in (
+      memory-length (c .before .before .before .before .before .before .before .before .before .before .before .before),
+      picture-length (c .before .before .before .before .before .before .before .before .before .before .before .before),
+      history-length (c .before .before .before .before .before .before .before .before .before .before .before .before),
+      went-on _ _ _ _ _ _ _ _ (c .before .before .before .before .before .before .before .before .before .before .before .before .before .before .before .before .before .before .before .before .before .before .loop .inv .3) (c .before .before .before .before .before .before .before .before .before .before .before .before .before .before .before .before .before .before .before .before .before .loop-test .taken) _ _ _ _ _ _ _ (rw (c .before .before .enum-told .given .1) at (entry .0)) (entry .1 .0) (entry .1 .1) (entry .1 .2) (entry .1 .3),
     )
 
 returns-2 : tie.Need-returns-2 Inv-loop μ-loop
 returns-2 c =
     let inv = c .before .before .loop .inv .3 in
     let past = c .before .loop-test .left in
-    rw (c .ran2 .ensures, ← c .before .before .before .core-of .ensures) (ended _ _ _ _ _ _ _ inv past, (ended-dark _ _ _ _ _ _ _ inv past, inv .few))
+    let totals = ended-totals _ _ _ _ _ _ _ _ inv past in
+    rw (c .ran2 .ensures, ← c .before .before .before .core-of .ensures) (ended _ _ _ _ _ _ _ _ inv past, (totals .0, inv .spots .few, totals .1, inv .bytes .few))
 
 pub run-ready-spec : {M : Type 1} → statement M
 run-ready-spec =
     tie.close (tie.spec Inv-loop μ-loop
     (λ c κs. tt) loop-holds (λ c. omega arith) (λ c. omega arith) shared-slice-read-entry-2 shared-slice-read-entry-3 (λ c κs. c .before .before .before .before .before .before .before .before .before .loop .inv .3 .ready)
     (search needs) (search needs) (λ c κs. tt) (λ c. memory-length (c .before .before .before .before .before .before .before .before .before .before .before)) (λ c. picture-length (c .before .before .before .before .before .before .before .before .before .before .before)) (λ c. history-length (c .before .before .before .before .before .before .before .before .before .before .before)) returns
-    (λ c. let inv = c .before .before .before .before .before .before .before .before .before .before .before .before .before .before .before .before .before .before .before .before .before .loop .inv .3 in omega (arith, inv .few, inv .inside, inv .lists .few, c .before .before .before .before .before .before .before .before .before .before .before .entry .ensures .1 .1))
-    (λ c. let inv = c .before .before .before .before .before .before .before .before .before .before .before .before .before .before .before .before .before .before .before .before .before .loop .inv .3 in omega (arith, inv .inside, inv .lists .few)) (λ c. omega (arith, c .before .before .before .before .before .before .before .before .before .before .before .before .before .before .before .before .before .before .before .before .loop-test .taken)) loop-again
+    (λ c. let inv = c .before .before .before .before .before .before .before .before .before .before .before .before .before .before .before .before .before .before .before .before .before .loop .inv .3 in omega (arith, inv .spots .few, inv .inside, inv .lists .few, c .before .before .before .before .before .before .before .before .before .before .before .entry .ensures .1 .1))
+    (λ c. let inv = c .before .before .before .before .before .before .before .before .before .before .before .before .before .before .before .before .before .before .before .before .before .before .loop .inv .3 in omega (arith, inv .bytes .few, inv .inside, inv .lists .few, c .before .before .before .before .before .before .before .before .before .before .before .before .entry .ensures .1 .3))
+    (λ c. let inv = c .before .before .before .before .before .before .before .before .before .before .before .before .before .before .before .before .before .before .before .before .before .before .loop .inv .3 in omega (arith, inv .inside, inv .lists .few)) (λ c. omega (arith, c .before .before .before .before .before .before .before .before .before .before .before .before .before .before .before .before .before .before .before .before .before .loop-test .taken)) loop-again
     (λ c κs. tt) (λ c. c .before .before .loop .inv .0) (λ c. c .before .before .loop .inv .1) (λ c. c .before .before .loop .inv .2) returns-2)

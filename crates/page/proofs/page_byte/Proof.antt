@@ -5,9 +5,9 @@ use Prim.Native.Nat.{_%_}
 use native.Mathlib.Omega.{arith}
 use borrow.Author.Needs.{needs}
 use borrow.Author.Tests.{lt-ltb, le-ltb}
-use Rattle.stepper.specs.Bytes.{pageByte, place}
-use Rattle.stepper.proofs.page_byte.Statement.{statement}
-use Rattle.stepper.proofs.page_byte.Tie as tie
+use Rattle.page.specs.Bytes.{pageByte, place}
+use Rattle.page.proofs.page_byte.Statement.{statement}
+use Rattle.page.proofs.page_byte.Tie as tie
 
 returns : tie.Need-returns
 unfolding pageByte

@@ -4,8 +4,8 @@ use Prim.Native.Nat.{_%_}
 use native.Mathlib.Omega.{arith}
 use borrow.Author.Needs.{needs}
 use borrow.Author.Tests.{lt-ltb, le-ltb, eq-eqb, ne-eqb}
-use Rattle.stepper.proofs.value.Statement.{statement}
-use Rattle.stepper.proofs.value.Tie as tie
+use Rattle.page.proofs.value.Statement.{statement}
+use Rattle.page.proofs.value.Tie as tie
 
 returns : tie.Need-returns
 returns c =

@@ -10,8 +10,8 @@ use Rattle.rules.specs.declared.Machine.{Machine}
 use Rattle.rules.specs.State.{pictureSize, fresh, withV, withPc}
 use Rattle.rules.specs.Number.{same}
 use Rattle.rules.specs.Picture.{bytesFrom}
-use Rattle.stepper.specs.Page.{pageSpot}
-use Rattle.stepper.specs.Bytes.{pageByte, pageOf, page}
+use Rattle.page_spots.specs.Page.{pageSpot}
+use Rattle.page.specs.Bytes.{pageByte, pageOf, page}
 
 -- five pattern rows of eight bytes: the first four with a dark row beneath, the fifth with three
 abbrev rows : List ℕ → List ℕ → List ℕ → List ℕ → List ℕ → List ℕ

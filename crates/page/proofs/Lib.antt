@@ -1,0 +1,2 @@
+-- A page on the way.
+pub mod Filled

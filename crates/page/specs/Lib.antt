@@ -1,0 +1,2 @@
+-- The page of variables as bytes that compute.
+pub mod Bytes

@@ -1,0 +1,2 @@
+-- The law that the bytes of a page are its spots.
+pub mod Spots
