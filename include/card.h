@@ -4,10 +4,11 @@
  *
  * Link with the static library libcard.a. Seven functions load a program, make
  * one step or one clock tick, go one action back or forward again, run a list
- * of inputs, and play a list of moves. An eighth turns the picture into the
- * bytes of the card's own panel, and a ninth draws a page of the variables, for
- * a dock that shows the game or its insides. A load chooses the edition of the
- * instruction set.
+ * of inputs, and play a list of moves. They hold the picture as rows, and two
+ * more turn rows into bytes and bytes into rows. A tenth turns those bytes into
+ * the ones of the card's own panel, and an eleventh draws a page of the
+ * variables, for a dock that shows the game or its insides. A load chooses the
+ * edition of the instruction set.
  *
  * THE BUFFERS
  *
@@ -16,14 +17,19 @@
  *
  *   image    64 bytes      registers, stack, timers and history numbers
  *   memory   4,096 bytes   the program and its data
- *   picture  256 bytes     64 by 32 spots, 8 bytes a row, top row first, the
- *                          highest bit leftmost, 1 for a lit spot
+ *   rows     32 numbers    64 by 32 spots, a number of 64 bits for each row, top
+ *                          row first, the highest bit leftmost, 1 for a lit spot
  *   history  292 to 65,536 bytes, a place of 292 bytes for each action that can
  *            be taken back and made again; bytes after the last whole place are
  *            in none, and only a load writes them: it clears them with all the
  *            others
  *
- * Beside them, for card_panel alone:
+ * Beside them, for card_rows, card_bytes and card_panel alone:
+ *
+ *   picture  256 bytes     the same spots, 8 bytes a row, top row first, the
+ *                          highest bit leftmost
+ *
+ * for card_panel alone:
  *
  *   panel    1,024 bytes   128 by 64 dots, 16 bytes a row, top row first, the
  *                          highest bit leftmost, 1 for a lit dot
@@ -34,11 +40,11 @@
  *                          dots too
  *
  * Each buffer is handed over as a pointer and, right after it, its length. The
- * length counts elements: bytes, 16-bit numbers for keys, 64-bit numbers for an
- * answer. So sizeof gives the length of a buffer of bytes, and of no other: an
- * answer has CARD_ANSWER elements, and `sizeof answer` is eight times that. A
- * wrong length is refused, so a call never reads or writes outside the lengths
- * that it was told.
+ * length counts elements: bytes, 16-bit numbers for keys, 64-bit numbers for
+ * rows and for an answer. So sizeof gives the length of a buffer of bytes, and of
+ * no other: the rows have CARD_ROWS elements and an answer CARD_ANSWER, and
+ * `sizeof rows` and `sizeof answer` are eight times that. A wrong length is
+ * refused, so a call never reads or writes outside the lengths that it was told.
  *
  * What the host must see to:
  *   - A pointer is never null, even when the length is 0; any valid address
@@ -50,12 +56,23 @@
  *     CARD_DAMAGED_RECORD.
  *   - Somebody has written the contents. What is proved speaks of bytes that have
  *     a value, so buffers that are still uninitialised are outside of it. An
- *     accepted card_load writes every byte of image, memory, picture and history,
+ *     accepted card_load writes every byte of image, memory, rows and history,
  *     and a refused one every byte of the image; to be inside the proof with the
  *     first load too, clear the four before it.
  *
  * Threads: calls on different buffers may be made at the same time. Buffers
  * that are lent to a call are not touched by anybody else until it ends.
+ *
+ * THE ROWS
+ *
+ * The machine works on its picture as rows: rows[y] is row y, and the spot in
+ * column x of it is
+ *   rows[y] >> (63 - x) & 1
+ * A panel, a page of variables and the records of a history hold the same spots
+ * as bytes. Row y is made of the bytes 8 * y to 8 * y + 7, the first of them
+ * highest; so on a machine that stores its low bytes first, rows lie in memory
+ * otherwise than bytes do. card_rows and card_bytes turn one into the other, and
+ * nothing is lost either way.
  *
  * THE ANSWER
  *
@@ -69,23 +86,23 @@
  * AN EXAMPLE
  *
  *   uint8_t image[CARD_IMAGE] = {0}, memory[CARD_MEMORY] = {0};
- *   uint8_t picture[CARD_PICTURE] = {0}, history[100 * CARD_PLACE] = {0};
- *   uint64_t answer[CARD_ANSWER] = {0};   (its length is CARD_ANSWER, a count)
+ *   uint8_t history[100 * CARD_PLACE] = {0};
+ *   uint64_t rows[CARD_ROWS] = {0};       (its length is CARD_ROWS, a count)
+ *   uint64_t answer[CARD_ANSWER] = {0};   (and this one's is CARD_ANSWER)
  *   const uint8_t program[] = {0x60, 0x05, 0x70, 0x03};   (V0 = 5, V0 += 3)
  *
  *   card_load(program, sizeof program, CARD_FIRST_EDITION, image,
- *             sizeof image, memory, sizeof memory, picture, sizeof picture,
+ *             sizeof image, memory, sizeof memory, rows, CARD_ROWS,
  *             history, sizeof history);
- *   card_step(image, sizeof image, memory, sizeof memory, picture,
- *             sizeof picture, history, sizeof history, 0, 0, answer,
- *             CARD_ANSWER);
+ *   card_step(image, sizeof image, memory, sizeof memory, rows, CARD_ROWS,
+ *             history, sizeof history, 0, 0, answer, CARD_ANSWER);
  *   (image[CARD_AT_V] is 5 now, and answer[CARD_ACCEPTED] is 1; nothing was
  *   drawn, so answer[CARD_WENT_DARK] is 0)
- *   card_back(image, sizeof image, memory, sizeof memory, picture,
- *             sizeof picture, history, sizeof history);
+ *   card_back(image, sizeof image, memory, sizeof memory, rows, CARD_ROWS,
+ *             history, sizeof history);
  *   (image[CARD_AT_V] is 0 again, and PC is 0200)
- *   card_forward(image, sizeof image, memory, sizeof memory, picture,
- *                sizeof picture, history, sizeof history);
+ *   card_forward(image, sizeof image, memory, sizeof memory, rows, CARD_ROWS,
+ *                history, sizeof history);
  *   (image[CARD_AT_V] is 5 once more)
  *
  * THE BUTTON
@@ -171,6 +188,8 @@ enum card_refusal {
  *   forward  9, 10, 12, 11, then those of its step from 1 on
  *   run      9, 10, then that of the step that ended it
  *   play     9, 10, then that of the last move
+ *   rows     9
+ *   bytes    9
  *   panel    9
  *   page     9, 10
  */
@@ -218,20 +237,20 @@ enum card_refusal {
 
 /*
  * Loads a program of 1 to 3,584 bytes to 0200. The digits stand from 0000 to
- * 004F; all other memory, the picture and the whole history become 0. Nothing
+ * 004F; all other memory, the rows and the whole history become 0. Nothing
  * is read from the four buffers, so they may hold anything before. An `edition`
  * other than the two is CARD_UNSOUND.
  *
  * The image becomes the fresh one (PC 0200, held key FF, the edition that was
  * asked for, all else 0) even when the load is refused, provided it has 64 bytes.
  * It has the first edition where no such edition was asked for, whichever number
- * refuses the load. A refused load leaves memory, picture and history.
+ * refuses the load. A refused load leaves memory, rows and history.
  */
 uint32_t card_load(const uint8_t *program, size_t program_length,
                    uint8_t edition,
                    uint8_t *image, size_t image_length,
                    uint8_t *memory, size_t memory_length,
-                   uint8_t *picture, size_t picture_length,
+                   uint64_t *rows, size_t rows_length,
                    uint8_t *history, size_t history_length);
 
 /*
@@ -248,7 +267,7 @@ uint32_t card_load(const uint8_t *program, size_t program_length,
  */
 uint32_t card_step(uint8_t *image, size_t image_length,
                    uint8_t *memory, size_t memory_length,
-                   uint8_t *picture, size_t picture_length,
+                   uint64_t *rows, size_t rows_length,
                    uint8_t *history, size_t history_length,
                    uint16_t keys, uint8_t random,
                    uint64_t *answer, size_t answer_length);
@@ -262,13 +281,13 @@ uint32_t card_tick(uint8_t *image, size_t image_length,
 
 /*
  * Takes back the last step or tick that was accepted, with every part of the
- * state and every byte of memory and picture. The history is only read, and
+ * state, every byte of memory and every row. The history is only read, and
  * card_forward can make the action again. When kept is 0, nothing is left to
  * take back and the call is refused with CARD_NOTHING_KEPT.
  */
 uint32_t card_back(uint8_t *image, size_t image_length,
                    uint8_t *memory, size_t memory_length,
-                   uint8_t *picture, size_t picture_length,
+                   uint64_t *rows, size_t rows_length,
                    const uint8_t *history, size_t history_length);
 
 /*
@@ -285,7 +304,7 @@ uint32_t card_back(uint8_t *image, size_t image_length,
  */
 uint32_t card_forward(uint8_t *image, size_t image_length,
                       uint8_t *memory, size_t memory_length,
-                      uint8_t *picture, size_t picture_length,
+                      uint64_t *rows, size_t rows_length,
                       uint8_t *history, size_t history_length);
 
 /*
@@ -303,7 +322,7 @@ uint32_t card_forward(uint8_t *image, size_t image_length,
  */
 uint32_t card_run(uint8_t *image, size_t image_length,
                   uint8_t *memory, size_t memory_length,
-                  uint8_t *picture, size_t picture_length,
+                  uint64_t *rows, size_t rows_length,
                   uint8_t *history, size_t history_length,
                   const uint8_t *ticks, size_t ticks_length,
                   const uint16_t *keys, size_t keys_length,
@@ -331,17 +350,38 @@ enum card_move {
  */
 uint32_t card_play(uint8_t *image, size_t image_length,
                    uint8_t *memory, size_t memory_length,
-                   uint8_t *picture, size_t picture_length,
+                   uint64_t *rows, size_t rows_length,
                    uint8_t *history, size_t history_length,
                    const uint8_t *moves, size_t moves_length,
                    const uint16_t *keys, size_t keys_length,
                    const uint8_t *randoms, size_t randoms_length);
 
 /*
- * Turns the picture into the panel: each spot fills two by two dots, so dot
- * (x, y) of the panel is spot (x / 2, y / 2) of the picture, for every x below
- * 128 and y below 64. All 1,024 bytes are written, and nothing is read from
- * them before. The picture is only read.
+ * Turns a picture into rows: rows[y] becomes the bytes 8 * y to 8 * y + 7 as one
+ * number, the first of them highest. All 32 numbers are written, and nothing is
+ * read from them before. The picture is only read.
+ *
+ * A picture of other than 256 bytes or rows of other than 32 numbers are
+ * CARD_LENGTH, and the rows are then as they came. No machine is needed: any 256
+ * bytes are a picture.
+ */
+uint32_t card_rows(const uint8_t *picture, size_t picture_length,
+                   uint64_t *rows, size_t rows_length);
+
+/*
+ * Turns rows into a picture, so that card_rows on it gives the same rows again:
+ * picture[8 * y + k] becomes the byte of rows[y] that has k bytes above it. All
+ * 256 bytes are written, and nothing is read from them before. The rows are only
+ * read. Lengths are tested as by card_rows, and any 32 numbers are rows.
+ */
+uint32_t card_bytes(const uint64_t *rows, size_t rows_length,
+                    uint8_t *picture, size_t picture_length);
+
+/*
+ * Turns a picture, as card_bytes gives it, into the panel: each spot fills two by
+ * two dots, so dot (x, y) of the panel is spot (x / 2, y / 2) of the picture, for
+ * every x below 128 and y below 64. All 1,024 bytes are written, and nothing is
+ * read from them before. The picture is only read.
  *
  * The dot in column x of row y is
  *   panel[CARD_PANEL_BYTES_A_ROW * y + x / 8] >> (7 - x % 8) & 1

@@ -5,6 +5,7 @@
  * All buffers stand in one struct with guard bytes between them. The guards
  * are looked at after every call.
  */
+#include <inttypes.h>
 #include <stdio.h>
 #include <string.h>
 
@@ -20,7 +21,7 @@ struct desk {
     uint8_t guard_1[GUARD];
     uint8_t memory[CARD_MEMORY];
     uint8_t guard_2[GUARD];
-    uint8_t picture[CARD_PICTURE];
+    uint64_t rows[CARD_ROWS];
     uint8_t guard_3[GUARD];
     uint8_t history[PLACES * CARD_PLACE + 7];
     uint8_t guard_4[GUARD];
@@ -30,6 +31,8 @@ struct desk {
     uint8_t guard_6[GUARD];
     uint8_t page[CARD_PAGE];
     uint8_t guard_7[GUARD];
+    uint8_t picture[CARD_PICTURE];
+    uint8_t guard_8[GUARD];
 };
 
 static struct desk desk;
@@ -57,6 +60,7 @@ static void set_guards(void) {
     memset(desk.guard_5, GUARD_BYTE, GUARD);
     memset(desk.guard_6, GUARD_BYTE, GUARD);
     memset(desk.guard_7, GUARD_BYTE, GUARD);
+    memset(desk.guard_8, GUARD_BYTE, GUARD);
 }
 
 static void look_at_guard(const uint8_t *guard) {
@@ -77,6 +81,7 @@ static uint32_t after_call(uint32_t refusal) {
     look_at_guard(desk.guard_5);
     look_at_guard(desk.guard_6);
     look_at_guard(desk.guard_7);
+    look_at_guard(desk.guard_8);
     return refusal;
 }
 
@@ -86,14 +91,14 @@ static uint32_t load(const uint8_t *program, size_t length, uint8_t edition) {
     return after_call(card_load(program, length, edition,
                                 desk.image, sizeof desk.image,
                                 desk.memory, sizeof desk.memory,
-                                desk.picture, sizeof desk.picture,
+                                desk.rows, CARD_ROWS,
                                 desk.history, sizeof desk.history));
 }
 
 static uint32_t step(uint16_t keys, uint8_t random) {
     return after_call(card_step(desk.image, sizeof desk.image,
                                 desk.memory, sizeof desk.memory,
-                                desk.picture, sizeof desk.picture,
+                                desk.rows, CARD_ROWS,
                                 desk.history, sizeof desk.history,
                                 keys, random, desk.answer, CARD_ANSWER));
 }
@@ -106,14 +111,14 @@ static uint32_t tick(void) {
 static uint32_t back(void) {
     return after_call(card_back(desk.image, sizeof desk.image,
                                 desk.memory, sizeof desk.memory,
-                                desk.picture, sizeof desk.picture,
+                                desk.rows, CARD_ROWS,
                                 desk.history, sizeof desk.history));
 }
 
 static uint32_t forward(void) {
     return after_call(card_forward(desk.image, sizeof desk.image,
                                    desk.memory, sizeof desk.memory,
-                                   desk.picture, sizeof desk.picture,
+                                   desk.rows, CARD_ROWS,
                                    desk.history, sizeof desk.history));
 }
 
@@ -121,7 +126,7 @@ static uint32_t run(const uint8_t *ticks, const uint16_t *keys,
                     const uint8_t *randoms, size_t entries) {
     return after_call(card_run(desk.image, sizeof desk.image,
                                desk.memory, sizeof desk.memory,
-                               desk.picture, sizeof desk.picture,
+                               desk.rows, CARD_ROWS,
                                desk.history, sizeof desk.history,
                                ticks, entries, keys, entries,
                                randoms, entries, desk.answer, CARD_ANSWER));
@@ -131,10 +136,20 @@ static uint32_t play(const uint8_t *moves, const uint16_t *keys,
                      const uint8_t *randoms, size_t entries) {
     return after_call(card_play(desk.image, sizeof desk.image,
                                 desk.memory, sizeof desk.memory,
-                                desk.picture, sizeof desk.picture,
+                                desk.rows, CARD_ROWS,
                                 desk.history, sizeof desk.history,
                                 moves, entries, keys, entries,
                                 randoms, entries));
+}
+
+static uint32_t to_bytes(void) {
+    return after_call(card_bytes(desk.rows, CARD_ROWS,
+                                 desk.picture, sizeof desk.picture));
+}
+
+static uint32_t to_rows(void) {
+    return after_call(card_rows(desk.picture, sizeof desk.picture,
+                                desk.rows, CARD_ROWS));
 }
 
 static uint32_t fill_panel(void) {
@@ -177,7 +192,7 @@ static int spot(const uint8_t *picture, int x, int y) {
     return picture[CARD_BYTES_A_ROW * y + x / 8] >> (7 - x % 8) & 1;
 }
 
-static void show_rows(const uint8_t *picture, int first, int last) {
+static void show_spots(const uint8_t *picture, int first, int last) {
     for (int row = first; row <= last; row++) {
         printf("row %2d ", row);
         for (int column = 0; column < CARD_COLUMNS; column++) {
@@ -185,6 +200,12 @@ static void show_rows(const uint8_t *picture, int first, int last) {
         }
         putchar('\n');
     }
+}
+
+/* The game's rows, by way of their bytes. */
+static void show_rows(int first, int last) {
+    expect(to_bytes() == CARD_DONE, "rows are turned into bytes");
+    show_spots(desk.picture, first, last);
 }
 
 static void accepted_step(uint16_t keys) {
@@ -230,7 +251,7 @@ static void there_and_back(void) {
     for (int count = 0; count < 5; count++) {
         accepted_step(0);
     }
-    show_rows(desk.picture, 29, 31);
+    show_rows(29, 31);
     expect(desk.answer[CARD_WENT_DARK] == 0, "the picture was dark before");
     accepted_step(0);
     printf("%u spots went dark\n", (unsigned)desk.answer[CARD_WENT_DARK]);
@@ -238,7 +259,7 @@ static void there_and_back(void) {
     for (int count = 0; count < 6; count++) {
         accepted_step(0);
     }
-    show_rows(desk.picture, 29, 31);
+    show_rows(29, 31);
     for (int count = 0; count < 5; count++) {
         expect(tick() == CARD_DONE, "a tick was refused");
     }
@@ -265,8 +286,8 @@ static void there_and_back(void) {
     set_number(CARD_AT_AHEAD, backs);
     expect(memcmp(desk.memory, start.memory, sizeof desk.memory) == 0,
            "the memory is not as it was after the load");
-    expect(memcmp(desk.picture, start.picture, sizeof desk.picture) == 0,
-           "the picture is not as it was after the load");
+    expect(memcmp(desk.rows, start.rows, sizeof desk.rows) == 0,
+           "the rows are not as they were after the load");
     expect(memcmp(desk.history, end.history, sizeof desk.history) == 0,
            "a back wrote in the history");
 
@@ -456,7 +477,7 @@ static void refusals(void) {
 
     refused(after_call(card_step(desk.image, sizeof desk.image,
                                  desk.memory, sizeof desk.memory - 1,
-                                 desk.picture, sizeof desk.picture,
+                                 desk.rows, CARD_ROWS,
                                  desk.history, sizeof desk.history,
                                  0, 0, desk.answer, CARD_ANSWER)),
             CARD_LENGTH, "a memory of 4,095 bytes");
@@ -465,10 +486,22 @@ static void refusals(void) {
             CARD_LENGTH, "an image of 63 bytes");
     refused(after_call(card_back(desk.image, sizeof desk.image,
                                  desk.memory, sizeof desk.memory,
-                                 desk.picture, sizeof desk.picture,
+                                 desk.rows, CARD_ROWS,
                                  desk.history, CARD_HISTORY_LEAST - 1)),
             CARD_LENGTH, "a history of 291 bytes");
+    refused(after_call(card_step(desk.image, sizeof desk.image,
+                                 desk.memory, sizeof desk.memory,
+                                 desk.rows, CARD_ROWS - 1,
+                                 desk.history, sizeof desk.history,
+                                 0, 0, desk.answer, CARD_ANSWER)),
+            CARD_LENGTH, "31 rows");
 
+    refused(after_call(card_rows(desk.picture, sizeof desk.picture,
+                                 desk.rows, CARD_ROWS - 1)),
+            CARD_LENGTH, "31 rows for a picture");
+    refused(after_call(card_bytes(desk.rows, CARD_ROWS,
+                                  desk.picture, sizeof desk.picture - 1)),
+            CARD_LENGTH, "255 bytes for the rows");
     refused(after_call(card_panel(desk.picture, sizeof desk.picture - 1,
                                   desk.panel, sizeof desk.panel)),
             CARD_LENGTH, "a picture of 255 bytes");
@@ -551,7 +584,7 @@ static void one_place_back(uint32_t wanted) {
     uint32_t refusal =
         after_call(card_back(desk.image, sizeof desk.image,
                              desk.memory, sizeof desk.memory,
-                             desk.picture, sizeof desk.picture,
+                             desk.rows, CARD_ROWS,
                              desk.history, CARD_PLACE));
     printf("one place, back: %u\n", (unsigned)refusal);
     expect(refusal == wanted, "one place takes back one action");
@@ -561,7 +594,7 @@ static void one_place_forward(uint32_t wanted) {
     uint32_t refusal =
         after_call(card_forward(desk.image, sizeof desk.image,
                                 desk.memory, sizeof desk.memory,
-                                desk.picture, sizeof desk.picture,
+                                desk.rows, CARD_ROWS,
                                 desk.history, CARD_PLACE));
     printf("one place, forward: %u\n", (unsigned)refusal);
     expect(refusal == wanted, "one place makes one action again");
@@ -574,7 +607,7 @@ static void one_place(void) {
         uint32_t refusal =
             after_call(card_step(desk.image, sizeof desk.image,
                                  desk.memory, sizeof desk.memory,
-                                 desk.picture, sizeof desk.picture,
+                                 desk.rows, CARD_ROWS,
                                  desk.history, CARD_PLACE,
                                  0, 0, desk.answer, CARD_ANSWER));
         expect(refusal == CARD_DONE, "a step with one place is accepted");
@@ -587,6 +620,48 @@ static void one_place(void) {
     expect(desk.image[CARD_AT_V] == 1, "the first step stands");
 }
 
+/* ---- Rows and bytes ----------------------------------------------------- */
+
+/* Draws two digits, and turns the rows into bytes and back. */
+static void rows_and_bytes(void) {
+    static const uint8_t program[] = {
+        0x61, 0x05, /* 0200 V1 = 5, so a digit lies across two bytes */
+        0x62, 0x0F, /* 0202 V2 = 0F */
+        0xF2, 0x29, /* 0204 I = the digit F */
+        0xD1, 0x05, /* 0206 draw it at the top */
+        0x61, 0x3C, /* 0208 V1 = 3C, a column near the right edge */
+        0xD1, 0x05, /* 020A draw it there too */
+    };
+    uint64_t drawn[CARD_ROWS];
+
+    load(program, sizeof program, CARD_FIRST_EDITION);
+    for (size_t count = 0; count < sizeof program / 2; count++) {
+        expect(step(0, 0) == CARD_DONE, "a step was refused");
+    }
+    memcpy(drawn, desk.rows, sizeof drawn);
+    memset(desk.picture, 0x5A, sizeof desk.picture);
+    expect(to_bytes() == CARD_DONE, "rows are turned into bytes");
+    for (int row = 0; row < 6; row++) {
+        printf("row %2d %016" PRIX64 " bytes", row, desk.rows[row]);
+        for (int at = 0; at < CARD_BYTES_A_ROW; at++) {
+            printf(" %02X", desk.picture[CARD_BYTES_A_ROW * row + at]);
+        }
+        putchar('\n');
+    }
+    for (int y = 0; y < CARD_ROWS; y++) {
+        for (int x = 0; x < CARD_COLUMNS; x++) {
+            expect(spot(desk.picture, x, y) == (int)(desk.rows[y] >> (63 - x) & 1),
+                   "a spot of the bytes is not that of its row");
+        }
+    }
+    expect(memcmp(desk.rows, drawn, sizeof drawn) == 0,
+           "rows that are only read were written");
+    memset(desk.rows, 0x5A, sizeof desk.rows);
+    expect(to_rows() == CARD_DONE, "bytes are turned into rows");
+    expect(memcmp(desk.rows, drawn, sizeof drawn) == 0,
+           "the rows do not come back");
+}
+
 /* ---- The card's own panel ----------------------------------------------- */
 
 static int dot(int x, int y) {
@@ -597,6 +672,7 @@ static int dot(int x, int y) {
 static void the_panel(void) {
     prepare(0xD005);
     expect(step(0, 0) == CARD_DONE, "a drawing is accepted");
+    expect(to_bytes() == CARD_DONE, "the rows are turned into bytes");
     memset(desk.panel, 0x5A, sizeof desk.panel);
     expect(fill_panel() == CARD_DONE, "the panel is filled");
     for (int y = 0; y < CARD_PANEL_ROWS; y++) {
@@ -629,7 +705,7 @@ static void the_page(void) {
     memset(desk.memory, 0, sizeof desk.memory);
     remember();
     expect(draw_page() == CARD_DONE, "the page is drawn");
-    show_rows(desk.page, 0, CARD_ROWS - 1);
+    show_spots(desk.page, 0, CARD_ROWS - 1);
     memcpy(before.page, desk.page, sizeof desk.page);
     expect(memcmp(&before, &desk, sizeof desk) == 0,
            "a page touches nothing but itself");
@@ -642,6 +718,7 @@ int main(void) {
     refusals();
     second_edition();
     one_place();
+    rows_and_bytes();
     the_panel();
     the_page();
     if (surprises > 0) {

@@ -33,10 +33,6 @@ macro_rules! buffers {
                 Buffers { $($buffer: &self.$buffer),* }
             }
 
-            pub fn each_mut(&mut self) -> Buffers<&mut T> {
-                Buffers { $($buffer: &mut self.$buffer),* }
-            }
-
             pub fn part(&self, part: Part) -> &T {
                 match part {
                     $(Part::$part => &self.$buffer),*
@@ -54,15 +50,25 @@ macro_rules! buffers {
 
 buffers! { Image image, Memory memory, Picture picture, History history }
 
-/// What a host holds.
+/// What a host holds, in the form of the rules: its picture is bytes, eight a row.
 pub type Host = Buffers<Vec<u8>>;
 
-/// What a call is lent.
-pub type Lent<'a> = Buffers<&'a mut [u8]>;
+/// What a call is lent. An item of the picture is a byte, or a row of 64 spots.
+pub struct Lent<'a, Item> {
+    pub image: &'a mut [u8],
+    pub memory: &'a mut [u8],
+    pub picture: &'a mut [Item],
+    pub history: &'a mut [u8],
+}
 
 impl Host {
-    pub fn lend(&mut self) -> Lent<'_> {
-        self.each_mut().map(Vec::as_mut_slice)
+    pub fn lend(&mut self) -> Lent<'_, u8> {
+        Lent {
+            image: &mut self.image,
+            memory: &mut self.memory,
+            picture: &mut self.picture,
+            history: &mut self.history,
+        }
     }
 }
 

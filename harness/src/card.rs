@@ -23,7 +23,7 @@ macro_rules! cross {
     (@ $call:ident [$($kinds:tt)*] [$($given:tt)*] machine $lent:ident, $($rest:tt)*) => {
         cross!(@ $call [$($kinds)*] [$($given)*]
             write u8 $lent.image, write u8 $lent.memory,
-            write u8 $lent.picture, write u8 $lent.history, $($rest)*)
+            write u64 $lent.picture, write u8 $lent.history, $($rest)*)
     };
     (@ $call:ident [$($kinds:tt)*] [$($given:tt)*] lists $lists:ident, $($rest:tt)*) => {
         cross!(@ $call [$($kinds)*] [$($given)*]
@@ -45,30 +45,36 @@ macro_rules! cross {
 /// The card's archive.
 pub struct Archive;
 
-impl Engine for Archive {
+impl Engine<u64> for Archive {
     fn name(&self) -> &'static str {
         "the card's archive"
     }
-    fn load(&self, lent: Lent, program: &[u8], edition: u8) -> u32 {
+    fn load(&self, lent: Lent<u64>, program: &[u8], edition: u8) -> u32 {
         cross!(card_load: read u8 program, value u8 edition, machine lent)
     }
-    fn step(&self, lent: Lent, keys: u16, random: u8, answer: &mut [u64]) -> u32 {
+    fn step(&self, lent: Lent<u64>, keys: u16, random: u8, answer: &mut [u64]) -> u32 {
         cross!(card_step: machine lent, value u16 keys, value u8 random, write u64 answer)
     }
-    fn tick(&self, lent: Lent) -> u32 {
+    fn tick(&self, lent: Lent<u64>) -> u32 {
         cross!(card_tick: write u8 lent.image, write u8 lent.history)
     }
-    fn back(&self, lent: Lent) -> u32 {
+    fn back(&self, lent: Lent<u64>) -> u32 {
         cross!(card_back: machine lent)
     }
-    fn forward(&self, lent: Lent) -> u32 {
+    fn forward(&self, lent: Lent<u64>) -> u32 {
         cross!(card_forward: machine lent)
     }
-    fn run(&self, lent: Lent, lists: Lists, answer: &mut [u64]) -> u32 {
+    fn run(&self, lent: Lent<u64>, lists: Lists, answer: &mut [u64]) -> u32 {
         cross!(card_run: machine lent, lists lists, write u64 answer)
     }
-    fn play(&self, lent: Lent, lists: Lists) -> u32 {
+    fn play(&self, lent: Lent<u64>, lists: Lists) -> u32 {
         cross!(card_play: machine lent, lists lists)
+    }
+    fn rows(&self, picture: &[u8], rows: &mut [u64]) -> u32 {
+        cross!(card_rows: read u8 picture, write u64 rows)
+    }
+    fn bytes(&self, rows: &[u64], picture: &mut [u8]) -> u32 {
+        cross!(card_bytes: read u64 rows, write u8 picture)
     }
 }
 

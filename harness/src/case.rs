@@ -31,6 +31,16 @@ pub enum Call {
         keys: Vec<u16>,
         randoms: Vec<u8>,
     },
+    /// Fills rows from a picture, over what stands in them. Neither is a machine's.
+    Rows {
+        picture: Vec<u8>,
+        rows: Vec<u64>,
+    },
+    /// Fills a picture from rows, likewise.
+    Bytes {
+        rows: Vec<u64>,
+        picture: Vec<u8>,
+    },
     /// No call: the host itself writes bytes into a buffer. What would fall
     /// outside is left out.
     Write {
@@ -137,7 +147,7 @@ impl fmt::Display for Call {
     fn fmt(&self, f: &mut fmt::Formatter) -> fmt::Result {
         match self {
             Call::Load { program, edition } => {
-                let bytes = in_rows(program, |byte| format!("{byte:02X}"));
+                let bytes = in_rows(program);
                 write!(
                     f,
                     "load {} bytes [{bytes}] edition {edition}",
@@ -170,6 +180,22 @@ impl fmt::Display for Call {
                 keys,
                 randoms,
             } => write!(f, "play {}", lists("moves", moves, keys, randoms)),
+            Call::Rows { picture, rows } => write!(
+                f,
+                "rows of {} bytes [{}] over {} numbers [{}]",
+                picture.len(),
+                in_rows(picture),
+                rows.len(),
+                in_rows(rows)
+            ),
+            Call::Bytes { rows, picture } => write!(
+                f,
+                "bytes of {} numbers [{}] over {} bytes [{}]",
+                rows.len(),
+                in_rows(rows),
+                picture.len(),
+                in_rows(picture)
+            ),
             Call::Write { part, at, bytes } => {
                 write!(
                     f,
@@ -185,27 +211,32 @@ fn lists(name: &str, first: &[u8], keys: &[u16], randoms: &[u8]) -> String {
     format!(
         "{} {name} [{}], {} keys [{}], {} randoms [{}]",
         first.len(),
-        in_rows(first, |byte| format!("{byte:02X}")),
+        in_rows(first),
         keys.len(),
-        in_rows(keys, |word| format!("{word:04X}")),
+        in_rows(keys),
         randoms.len(),
-        in_rows(randoms, |byte| format!("{byte:02X}"))
+        in_rows(randoms)
     )
 }
 
 /// Equal entries one after another are printed once, with their number.
-fn in_rows<T: PartialEq>(list: &[T], print: impl Fn(&T) -> String) -> String {
+fn in_rows<T: PartialEq + fmt::UpperHex>(list: &[T]) -> String {
     let rows: Vec<String> = list
         .chunk_by(|one, other| one == other)
         .map(|row| match row.len() {
-            1 => print(&row[0]),
-            times => format!("{} x{times}", print(&row[0])),
+            1 => hex(&row[..1]),
+            times => format!("{} x{times}", hex(&row[..1])),
         })
         .collect();
     rows.join(" ")
 }
 
-pub fn hex(bytes: &[u8]) -> String {
-    let pairs: Vec<String> = bytes.iter().map(|byte| format!("{byte:02X}")).collect();
-    pairs.join(" ")
+/// Bytes or numbers, each with all its digits.
+pub fn hex<T: fmt::UpperHex>(numbers: &[T]) -> String {
+    let width = 2 * size_of::<T>();
+    let words: Vec<String> = numbers
+        .iter()
+        .map(|number| format!("{number:0width$X}"))
+        .collect();
+    words.join(" ")
 }

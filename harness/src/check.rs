@@ -6,8 +6,9 @@ use std::fmt;
 use crate::buffers::{Buffers, Host, Lent, Lists, Part, PARTS};
 use crate::case::{hex, write_bytes, Call, Case};
 use crate::engine::{Engine, Second};
-use crate::guard::Guarded;
+use crate::guard::{Guarded, Item};
 use crate::plain_list::PlainList;
+use crate::rows::{bytes_of, rows_of};
 use crate::tally::Tally;
 use crate::{card, dots, page};
 
@@ -25,32 +26,41 @@ impl fmt::Display for Mismatch {
 }
 
 /// Counts in the tally the calls that were made and found equal.
-pub fn check(engine: &dyn Engine, case: &Case, tally: &mut Tally) -> Result<(), Mismatch> {
+pub fn check(engine: &dyn Engine<u64>, case: &Case, tally: &mut Tally) -> Result<(), Mismatch> {
     let mut sides = Sides {
         expected: case.start.clone(),
         got: case.start.each().map(|buffer| Guarded::buffer(buffer)),
         list: PlainList::start(&case.start),
     };
     for (number, call) in case.calls.iter().enumerate() {
-        if let Call::Write { part, at, bytes } = call {
-            sides.write(*part, *at, bytes);
-        } else {
-            let refusal = sides
-                .make(engine, call)
-                .map_err(|what| Mismatch { call: number, what })?;
-            tally.count(call, refusal);
-        }
+        let refusal = match call {
+            Call::Write { part, at, bytes } => {
+                sides.write(*part, *at, bytes);
+                continue;
+            }
+            Call::Rows { picture, rows } => check_rows(engine, picture, rows).map(|came| came.0),
+            Call::Bytes { rows, picture } => check_bytes(engine, rows, picture).map(|came| came.0),
+            _ => sides.make(engine, call),
+        };
+        let refusal = refusal.map_err(|what| Mismatch { call: number, what })?;
+        tally.count(call, refusal);
     }
     Ok(())
 }
 
 /// Whether an engine differs from the second interpreter somewhere in a case.
-pub fn fails(engine: &dyn Engine, case: &Case) -> bool {
+pub fn fails(engine: &dyn Engine<u64>, case: &Case) -> bool {
     check(engine, case, &mut Tally::default()).is_err()
 }
 
-/// Makes one call with these lists. A host's own write is no call.
-pub fn make(engine: &dyn Engine, call: &Call, lists: Lists, lent: Lent, answer: &mut [u64]) -> u32 {
+/// Makes one call on a machine with these lists.
+pub fn make<Item>(
+    engine: &dyn Engine<Item>,
+    call: &Call,
+    lists: Lists,
+    lent: Lent<Item>,
+    answer: &mut [u64],
+) -> u32 {
     match call {
         Call::Load { edition, .. } => engine.load(lent, lists.first, *edition),
         Call::Step { keys, random, .. } => engine.step(lent, *keys, *random, answer),
@@ -59,33 +69,58 @@ pub fn make(engine: &dyn Engine, call: &Call, lists: Lists, lent: Lent, answer: 
         Call::Forward => engine.forward(lent),
         Call::Run { .. } => engine.run(lent, lists, answer),
         Call::Play { .. } => engine.play(lent, lists),
-        Call::Write { .. } => unreachable!("a host's write is no call"),
+        Call::Rows { .. } | Call::Bytes { .. } | Call::Write { .. } => {
+            unreachable!("no call on a machine")
+        }
     }
 }
 
-/// A call that reads one buffer and fills another. It answers the refusal.
-type Filling = fn(&[u8], &mut [u8]) -> u32;
-
-/// What came of a filling: the refusal, and what stands in the filled buffer.
-pub type Filled = Result<(u32, Vec<u8>), String>;
+/// What came of a call that reads one buffer and fills another: the refusal, and
+/// what stands in the filled buffer.
+pub type Filled<T> = Result<(u32, Vec<T>), String>;
 
 /// The card's panel beside the doubling dot by dot.
-pub fn check_panel(picture: &[u8], panel: &[u8]) -> Filled {
+pub fn check_panel(picture: &[u8], panel: &[u8]) -> Filled<u8> {
     check_filling(picture, panel, card::panel, dots::panel)
 }
 
 /// The stepper's page of variables beside the page spot by spot.
-pub fn check_page(image: &[u8], before: &[u8]) -> Filled {
+pub fn check_page(image: &[u8], before: &[u8]) -> Filled<u8> {
     check_filling(image, before, card::page, page::page)
 }
 
-/// Makes a call of the card and the same of our own, on copies of the same
-/// buffers, which must come out the same.
-fn check_filling(read: &[u8], before: &[u8], card: Filling, own: Filling) -> Filled {
+/// An engine's rows of a picture beside the second interpreter's.
+pub fn check_rows(engine: &dyn Engine<u64>, picture: &[u8], before: &[u64]) -> Filled<u64> {
+    check_filling(
+        picture,
+        before,
+        |picture, rows| engine.rows(picture, rows),
+        |picture, rows| Second.rows(picture, rows),
+    )
+}
+
+/// An engine's bytes of rows beside the second interpreter's.
+pub fn check_bytes(engine: &dyn Engine<u64>, rows: &[u64], before: &[u8]) -> Filled<u8> {
+    check_filling(
+        rows,
+        before,
+        |rows, picture| engine.bytes(rows, picture),
+        |rows, picture| Second.bytes(rows, picture),
+    )
+}
+
+/// Makes a call and the same of our own, on copies of the same buffers, which
+/// must come out the same.
+fn check_filling<R: Item, T: Item>(
+    read: &[R],
+    before: &[T],
+    call: impl Fn(&[R], &mut [T]) -> u32,
+    own: impl Fn(&[R], &mut [T]) -> u32,
+) -> Filled<T> {
     let lent = Guarded::new(read);
     let mut got = Guarded::new(before);
     let mut expected = before.to_vec();
-    let refusal = card(lent.contents(), got.lent());
+    let refusal = call(lent.contents(), got.lent());
     let right = own(read, &mut expected);
     if refusal != right {
         return Err(format!("refusal: expected {right}, got {refusal}"));
@@ -98,8 +133,9 @@ fn check_filling(read: &[u8], before: &[u8], card: Filling, own: Filling) -> Fil
 /// What an answer holds before a call, so that each write to it is seen.
 pub const UNWRITTEN: u64 = 0x5A5A_5A5A_5A5A_5A5A;
 
-/// The second interpreter's host, the buffers lent to the engine under test,
-/// and demand 3's list while nobody else writes in the buffers.
+/// The second interpreter's host, what the engine under test left, and demand 3's
+/// list while nobody else writes in the buffers. Both sides keep the picture as
+/// bytes; the engine is lent the rows that they are.
 struct Sides {
     expected: Host,
     got: Buffers<Guarded<u8>>,
@@ -114,20 +150,29 @@ impl Sides {
     }
 
     /// Makes one call on both sides and compares all that it left.
-    fn make(&mut self, engine: &dyn Engine, call: &Call) -> Result<u32, String> {
+    fn make(&mut self, engine: &dyn Engine<u64>, call: &Call) -> Result<u32, String> {
         let lists = call.lists();
         let lent = LentLists::new(&lists);
         let mut expected_answer = vec![UNWRITTEN; call.answer_length()];
         let mut answer = Guarded::new(&expected_answer);
+        let mut rows = Guarded::new(&rows_of(self.got.picture.contents()));
 
         let refusal = make(
             engine,
             call,
             lent.lists(),
-            self.got.each_mut().map(Guarded::lent),
+            Lent {
+                image: self.got.image.lent(),
+                memory: self.got.memory.lent(),
+                picture: rows.lent(),
+                history: self.got.history.lent(),
+            },
             answer.lent(),
         );
         lent.compare(&lists)?;
+        compare_guards("rows", &rows)?;
+        let picture = bytes_of(rows.contents());
+        self.got.picture.lent().copy_from_slice(&picture);
         let expected = make(
             &Second,
             call,
@@ -202,13 +247,15 @@ impl LentLists {
     }
 }
 
-fn compare_list<T>(name: &str, lent: &[T], got: &Guarded<T>) -> Result<(), String>
-where
-    T: Copy + PartialEq + From<u8>,
-{
-    if !got.guards_stand() {
-        return Err(format!("a write outside the {name}"));
+fn compare_guards<T: Item>(name: &str, got: &Guarded<T>) -> Result<(), String> {
+    match got.guards_stand() {
+        true => Ok(()),
+        false => Err(format!("a write outside the {name}")),
     }
+}
+
+fn compare_list<T: Item>(name: &str, lent: &[T], got: &Guarded<T>) -> Result<(), String> {
+    compare_guards(name, got)?;
     if lent != got.contents() {
         return Err(format!("a write into the {name}"));
     }
@@ -216,9 +263,7 @@ where
 }
 
 fn compare_answer(expected: &[u64], got: &Guarded<u64>) -> Result<(), String> {
-    if !got.guards_stand() {
-        return Err("a write outside the answer".to_string());
-    }
+    compare_guards("answer", got)?;
     if expected != got.contents() {
         return Err(format!(
             "answer: expected {expected:X?}, got {:X?}",
@@ -228,10 +273,8 @@ fn compare_answer(expected: &[u64], got: &Guarded<u64>) -> Result<(), String> {
     Ok(())
 }
 
-fn compare_buffer(name: &str, expected: &[u8], got: &Guarded<u8>) -> Result<(), String> {
-    if !got.guards_stand() {
-        return Err(format!("a write outside the {name}"));
-    }
+fn compare_buffer<T: Item>(name: &str, expected: &[T], got: &Guarded<T>) -> Result<(), String> {
+    compare_guards(name, got)?;
     let contents = got.contents();
     if expected == contents {
         return Ok(());

@@ -7,24 +7,27 @@ use crate::case::{hex, Call, Case};
 use crate::check::{check, check_page, check_panel, make, Filled, UNWRITTEN};
 use crate::engine::{Engine, Second, ANSWER};
 use crate::second::{
-    Machine, FIRST_EDITION, HISTORY_MOST, IMAGE, LATER, LIST_MOST, MEMORY, PICTURE, PLACE,
+    Machine, BYTES_A_ROW, FIRST_EDITION, HISTORY_MOST, IMAGE, LATER, LIST_MOST, MEMORY, PICTURE,
+    PLACE, ROWS,
 };
 use crate::tally::Tally;
 use crate::{dots, tuned::Tuned};
 
 /// What is compared with the second interpreter.
-const ENGINES: [&dyn Engine; 2] = [&Archive, &Tuned];
+const ENGINES: [&dyn Engine<u64>; 2] = [&Archive, &Tuned];
 
 /// The buffers by name: how many bytes there are, one more than any call takes,
 /// and how many of them are lent unless the script says otherwise.
-const BUFFERS: [(&str, usize, usize); 11] = [
+const BUFFERS: [(&str, usize, usize); 12] = [
     ("image", IMAGE + 1, IMAGE),
     ("memory", MEMORY + 1, MEMORY),
-    ("picture", PICTURE + 1, PICTURE),
+    // Bytes for one row more.
+    ("picture", BYTES_A_ROW * (ROWS + 1), PICTURE),
     ("history", HISTORY_MOST + 1, 3 * PLACE),
     ("panel", dots::PANEL + 1, dots::PANEL),
     ("page", PICTURE + 1, PICTURE),
-    // Of an answer only the length counts, in numbers.
+    // Of rows and of an answer only the length counts, in numbers.
+    ("rows", ROWS + 1, ROWS),
     ("answer", ANSWER + 1, ANSWER),
     // Of a list each call says how much it is lent.
     ("program", LIST_MOST + 1, 0),
@@ -165,6 +168,8 @@ fn inputs(words: &[&str]) -> Result<(u16, u8), String> {
 /// What the host holds in a case.
 struct Desk {
     buffers: Vec<Buffer>,
+    /// What the calls rows and bytes are lent. No machine's picture stands here.
+    rows: Vec<u64>,
     keys: Vec<u16>,
     calls: usize,
 }
@@ -190,6 +195,7 @@ impl Desk {
         };
         let mut desk = Desk {
             buffers: BUFFERS.map(buffer).into(),
+            rows: vec![0; ROWS + 1],
             keys: vec![0; LIST_MOST + 1],
             calls: 0,
         };
@@ -238,6 +244,8 @@ impl Desk {
             ["show", name, at, count] => return self.show(name, at, count).map(Some),
             ["panel"] => self.fill("picture", "panel", check_panel)?,
             ["page"] => self.fill("image", "page", check_page)?,
+            ["rows"] => self.turn_to_rows()?,
+            ["bytes"] => self.turn_to_bytes()?,
             ["walk", "back", count] => self.walk(number(count, 10)?, |_| Call::Back)?,
             ["walk", "forward", count] => self.walk(number(count, 10)?, |_| Call::Forward)?,
             ["walk", count, "keys", keys] => self.walk_on(number(count, 10)?, number(keys, 16)?)?,
@@ -309,6 +317,7 @@ impl Desk {
         };
         match name {
             "keys" => write(&mut self.keys, at, &numbers(values)?),
+            "rows" => write(&mut self.rows, at, &numbers(values)?),
             _ => write(&mut self.buffer(name)?.bytes, at, &numbers(values)?),
         }
     }
@@ -339,12 +348,11 @@ impl Desk {
 
     // ---- Calls
 
-    /// Every engine makes the call on the same buffers. The case goes on with
-    /// what it left.
-    fn make(&mut self, call: Call) -> Result<Made, String> {
+    /// Every engine makes the call on the same buffers. What came must be the same.
+    fn on_every_engine(&mut self, call: Call) -> Result<Case, String> {
         self.calls += 1;
-        let mut case = Case {
-            start: Host::of_names(|name| self.lent(name).to_vec()),
+        let case = Case {
+            start: self.host(),
             calls: vec![call],
         };
         for engine in ENGINES {
@@ -356,6 +364,12 @@ impl Desk {
                 )
             })?;
         }
+        Ok(case)
+    }
+
+    /// A call on the machine. The case goes on with what it left.
+    fn make(&mut self, call: Call) -> Result<Made, String> {
+        let mut case = self.on_every_engine(call)?;
         let call = &case.calls[0];
         let mut answer = vec![UNWRITTEN; call.answer_length()];
         let refusal = make(&Second, call, call.lists(), case.start.lend(), &mut answer);
@@ -363,6 +377,14 @@ impl Desk {
             self.keep(name, case.start.part(*part));
         }
         Ok(Made { refusal, answer })
+    }
+
+    /// What a call is lent: of the picture as many rows as are lent.
+    fn host(&self) -> Host {
+        let mut host = Host::of_names(|name| self.lent(name).to_vec());
+        let length = BYTES_A_ROW * self.known("rows").lent;
+        host.picture = self.known("picture").bytes[..length].to_vec();
+        host
     }
 
     fn call(&mut self, call: Call) -> Result<String, String> {
@@ -375,12 +397,40 @@ impl Desk {
         &mut self,
         read: &str,
         filled: &str,
-        check: fn(&[u8], &[u8]) -> Filled,
+        check: fn(&[u8], &[u8]) -> Filled<u8>,
     ) -> Result<String, String> {
         self.calls += 1;
         let (refusal, bytes) = check(self.lent(read), self.lent(filled))?;
         self.keep(filled, &bytes);
         Ok(told_refusal(refusal))
+    }
+
+    fn turn_to_rows(&mut self) -> Result<String, String> {
+        let (picture, mut rows) = self.both_forms();
+        self.on_every_engine(Call::Rows {
+            picture: picture.clone(),
+            rows: rows.clone(),
+        })?;
+        let refusal = Second.rows(&picture, &mut rows);
+        self.rows[..rows.len()].copy_from_slice(&rows);
+        Ok(told_refusal(refusal))
+    }
+
+    fn turn_to_bytes(&mut self) -> Result<String, String> {
+        let (mut picture, rows) = self.both_forms();
+        self.on_every_engine(Call::Bytes {
+            rows: rows.clone(),
+            picture: picture.clone(),
+        })?;
+        let refusal = Second.bytes(&rows, &mut picture);
+        self.keep("picture", &picture);
+        Ok(told_refusal(refusal))
+    }
+
+    /// What is lent of the bytes of a picture and of the buffer rows.
+    fn both_forms(&self) -> (Vec<u8>, Vec<u64>) {
+        let rows = &self.rows[..self.known("rows").lent];
+        (self.lent("picture").to_vec(), rows.to_vec())
     }
 
     /// Every fifth action is a tick. Keys are down at every second, and each step
@@ -431,10 +481,14 @@ impl Desk {
 
     fn show(&mut self, name: &str, at: &str, count: &str) -> Result<String, String> {
         let (first, count) = (number::<usize>(at, 16)?, number::<usize>(count, 10)?);
-        let bytes = self.buffer(name)?.bytes.get(first..first + count);
+        let range = first..first + count;
+        let shown = match name {
+            "rows" => self.rows.get(range).map(hex),
+            _ => self.buffer(name)?.bytes.get(range).map(hex),
+        };
         Ok(format!(
             "{name} {at}: {}",
-            hex(bytes.ok_or("that is past the end")?)
+            shown.ok_or("that is past the end")?
         ))
     }
 }

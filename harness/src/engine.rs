@@ -1,6 +1,7 @@
 //! One shape for every engine, so that any two of them can be compared.
 
 use crate::buffers::{Lent, Lists};
+use crate::rows;
 use crate::second::{self, Machine, Refusal, IMAGE};
 
 /// The length of an answer, in numbers.
@@ -12,16 +13,20 @@ pub const WENT_DARK: usize = 1;
 /// Where a run writes how many bytes its records keep.
 pub const COPIED: usize = 2;
 
-/// The seven calls. Each answers the refusal number, 0 for done.
-pub trait Engine {
+/// The calls on a machine, and the turning of a picture. Each answers the refusal
+/// number, 0 for done. The picture of a machine is lent as rows (`u64`), or as
+/// bytes (`u8`) as in the rules.
+pub trait Engine<Item> {
     fn name(&self) -> &'static str;
-    fn load(&self, lent: Lent, program: &[u8], edition: u8) -> u32;
-    fn step(&self, lent: Lent, keys: u16, random: u8, answer: &mut [u64]) -> u32;
-    fn tick(&self, lent: Lent) -> u32;
-    fn back(&self, lent: Lent) -> u32;
-    fn forward(&self, lent: Lent) -> u32;
-    fn run(&self, lent: Lent, lists: Lists, answer: &mut [u64]) -> u32;
-    fn play(&self, lent: Lent, lists: Lists) -> u32;
+    fn load(&self, lent: Lent<Item>, program: &[u8], edition: u8) -> u32;
+    fn step(&self, lent: Lent<Item>, keys: u16, random: u8, answer: &mut [u64]) -> u32;
+    fn tick(&self, lent: Lent<Item>) -> u32;
+    fn back(&self, lent: Lent<Item>) -> u32;
+    fn forward(&self, lent: Lent<Item>) -> u32;
+    fn run(&self, lent: Lent<Item>, lists: Lists, answer: &mut [u64]) -> u32;
+    fn play(&self, lent: Lent<Item>, lists: Lists) -> u32;
+    fn rows(&self, picture: &[u8], rows: &mut [u64]) -> u32;
+    fn bytes(&self, rows: &[u64], picture: &mut [u8]) -> u32;
 }
 
 /// The second interpreter behind the card's boundary.
@@ -37,7 +42,7 @@ fn number(outcome: Result<(), Refusal>) -> u32 {
 const WRONG_LENGTH: u32 = Refusal::Length as u32;
 
 /// Takes the machine out of its image, lets `call` work on it and puts it back.
-fn with_machine(lent: Lent, call: impl FnOnce(&mut Machine, &mut second::Lent) -> u32) -> u32 {
+fn with_machine(lent: Lent<u8>, call: impl FnOnce(&mut Machine, &mut second::Lent) -> u32) -> u32 {
     if lent.image.len() != IMAGE {
         return WRONG_LENGTH;
     }
@@ -52,18 +57,18 @@ fn with_machine(lent: Lent, call: impl FnOnce(&mut Machine, &mut second::Lent) -
     refusal
 }
 
-impl Engine for Second {
+impl Engine<u8> for Second {
     fn name(&self) -> &'static str {
         "the second interpreter"
     }
-    fn load(&self, lent: Lent, program: &[u8], edition: u8) -> u32 {
+    fn load(&self, lent: Lent<u8>, program: &[u8], edition: u8) -> u32 {
         with_machine(lent, |machine, lent| {
             let (loaded, outcome) = second::load(program, edition, lent);
             *machine = loaded;
             number(outcome)
         })
     }
-    fn step(&self, lent: Lent, keys: u16, random: u8, answer: &mut [u64]) -> u32 {
+    fn step(&self, lent: Lent<u8>, keys: u16, random: u8, answer: &mut [u64]) -> u32 {
         if answer.len() != ANSWER {
             return WRONG_LENGTH;
         }
@@ -77,18 +82,18 @@ impl Engine for Second {
             number(outcome.map(drop))
         })
     }
-    fn tick(&self, lent: Lent) -> u32 {
+    fn tick(&self, lent: Lent<u8>) -> u32 {
         with_machine(lent, |machine, lent| {
             number(second::tick(machine, lent.history))
         })
     }
-    fn back(&self, lent: Lent) -> u32 {
+    fn back(&self, lent: Lent<u8>) -> u32 {
         with_machine(lent, |machine, lent| number(second::back(machine, lent)))
     }
-    fn forward(&self, lent: Lent) -> u32 {
+    fn forward(&self, lent: Lent<u8>) -> u32 {
         with_machine(lent, |machine, lent| number(second::forward(machine, lent)))
     }
-    fn run(&self, lent: Lent, lists: Lists, answer: &mut [u64]) -> u32 {
+    fn run(&self, lent: Lent<u8>, lists: Lists, answer: &mut [u64]) -> u32 {
         if answer.len() != ANSWER {
             return WRONG_LENGTH;
         }
@@ -101,7 +106,7 @@ impl Engine for Second {
             number(ran.outcome)
         })
     }
-    fn play(&self, lent: Lent, lists: Lists) -> u32 {
+    fn play(&self, lent: Lent<u8>, lists: Lists) -> u32 {
         with_machine(lent, |machine, lent| {
             number(second::play(
                 machine,
@@ -111,5 +116,11 @@ impl Engine for Second {
                 lists.randoms,
             ))
         })
+    }
+    fn rows(&self, picture: &[u8], rows: &mut [u64]) -> u32 {
+        rows::rows(picture, rows)
+    }
+    fn bytes(&self, rows: &[u64], picture: &mut [u8]) -> u32 {
+        rows::bytes(rows, picture)
     }
 }

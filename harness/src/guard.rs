@@ -1,12 +1,19 @@
 //! A buffer of exactly the lent size, with guards on both sides of it in the
 //! same allocation, so that a write outside is seen.
 
+use std::fmt::UpperHex;
+
 const GUARD: u8 = 0xA5;
 /// An odd number, so that byte buffers do not begin at a rounded address.
 const BEFORE: usize = 31;
 const AFTER: usize = 33;
 /// More than one place, since the history is written a place at a time.
 const AFTER_BUFFER: usize = 321;
+
+/// What a buffer is made of: bytes or numbers.
+pub trait Item: Copy + PartialEq + From<u8> + UpperHex {}
+
+impl<T: Copy + PartialEq + From<u8> + UpperHex> Item for T {}
 
 pub struct Guarded<T> {
     all: Vec<T>,
@@ -20,7 +27,7 @@ impl Guarded<u8> {
     }
 }
 
-impl<T: Copy + PartialEq + From<u8>> Guarded<T> {
+impl<T: Item> Guarded<T> {
     pub fn new(contents: &[T]) -> Guarded<T> {
         Guarded::with(contents, AFTER)
     }

@@ -133,6 +133,7 @@ impl PlainList {
                 refusal
             }
             Call::Load { .. } | Call::Write { .. } => unreachable!("both end a list"),
+            Call::Rows { .. } | Call::Bytes { .. } => unreachable!("no call on a machine"),
         }
     }
 

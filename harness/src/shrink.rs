@@ -107,7 +107,7 @@ impl Shrinker<'_> {
                     }
                 });
                 self.drop_entries(number, length);
-                self.clear_bytes(length, move |case| match &mut case.calls[number] {
+                self.clear(length, move |case| match &mut case.calls[number] {
                     Call::Load { program, .. } => program,
                     _ => unreachable!("the call stays a load"),
                 });
@@ -122,9 +122,14 @@ impl Shrinker<'_> {
                 self.drop_entries(number, length);
                 self.clear_lists(number);
             }
+            Call::Rows { picture, rows } | Call::Bytes { rows, picture } => {
+                let (bytes, numbers) = (picture.len(), rows.len());
+                self.clear(bytes, move |case| turned(&mut case.calls[number]).0);
+                self.clear(numbers, move |case| turned(&mut case.calls[number]).1);
+            }
             Call::Write { bytes, .. } => {
                 let length = bytes.len();
-                self.clear_bytes(length, move |case| match &mut case.calls[number] {
+                self.clear(length, move |case| match &mut case.calls[number] {
                     Call::Write { bytes, .. } => bytes,
                     _ => unreachable!("the call stays a write"),
                 });
@@ -208,23 +213,24 @@ impl Shrinker<'_> {
         // The image last: its bytes mean the most.
         for &(part, _) in PARTS.iter().rev() {
             let length = self.case.start.part(part).len();
-            self.clear_bytes(length, move |case| case.start.part_mut(part));
+            self.clear(length, move |case| case.start.part_mut(part));
         }
     }
 
-    /// Clears ever smaller rows of some bytes of the case.
-    fn clear_bytes<F>(&mut self, length: usize, bytes: F)
+    /// Clears ever smaller rows of some bytes or numbers of the case.
+    fn clear<T, F>(&mut self, length: usize, list: F)
     where
-        F: Fn(&mut Case) -> &mut Vec<u8> + Copy,
+        T: Clone + Default,
+        F: Fn(&mut Case) -> &mut Vec<T> + Copy,
     {
-        let mut row = length.min(bytes(&mut self.case).len());
+        let mut row = length.min(list(&mut self.case).len());
         while row > 0 {
             for first in (0..length).step_by(row) {
                 self.try_case(|case| {
-                    let bytes = bytes(case);
-                    let end = bytes.len().min(first + row);
+                    let list = list(case);
+                    let end = list.len().min(first + row);
                     if first < end {
-                        bytes[first..end].fill(0);
+                        list[first..end].fill(T::default());
                     }
                 });
             }
@@ -235,11 +241,14 @@ impl Shrinker<'_> {
 
 /// A call as the second interpreter makes it.
 fn make_on(host: &mut Host, call: &Call) {
-    if let Call::Write { part, at, bytes } = call {
-        write_bytes(host.part_mut(*part), *at, bytes);
-    } else {
-        let mut answer = vec![0; call.answer_length()];
-        make(&Second, call, call.lists(), host.lend(), &mut answer);
+    match call {
+        Call::Write { part, at, bytes } => write_bytes(host.part_mut(*part), *at, bytes),
+        // They leave the host's machine.
+        Call::Rows { .. } | Call::Bytes { .. } => {}
+        _ => {
+            let mut answer = vec![0; call.answer_length()];
+            make(&Second, call, call.lists(), host.lend(), &mut answer);
+        }
     }
 }
 
@@ -247,6 +256,14 @@ fn drop_row<T>(list: &mut Vec<T>, first: usize, end: usize) {
     let end = end.min(list.len());
     if first < end {
         list.drain(first..end);
+    }
+}
+
+/// The two forms of a picture in a call that turns one into the other.
+fn turned(call: &mut Call) -> (&mut Vec<u8>, &mut Vec<u64>) {
+    match call {
+        Call::Rows { picture, rows } | Call::Bytes { rows, picture } => (picture, rows),
+        _ => unreachable!("the call stays a turning"),
     }
 }
 

@@ -5,7 +5,9 @@ use std::fmt;
 
 use crate::case::Call;
 
-const CALLS: [&str; 7] = ["load", "step", "tick", "back", "forward", "run", "play"];
+const CALLS: [&str; 9] = [
+    "load", "step", "tick", "back", "forward", "run", "play", "rows", "bytes",
+];
 /// 0 for done, then the refusals 1 to 12.
 const REFUSALS: usize = 13;
 
@@ -24,6 +26,8 @@ impl Tally {
             Call::Forward => 4,
             Call::Run { .. } => 5,
             Call::Play { .. } => 6,
+            Call::Rows { .. } => 7,
+            Call::Bytes { .. } => 8,
             Call::Write { .. } => return,
         };
         self.counts[row][refusal as usize] += 1;

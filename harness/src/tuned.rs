@@ -34,7 +34,7 @@ const DAMAGED_RECORD: u32 = 11;
 const NOTHING_AHEAD: u32 = 12;
 
 type Memory = [u8; MEMORY];
-type Picture = [u8; PICTURE];
+type Rows = [u64; ROWS];
 type Place = [u8; PLACE];
 type Image = [u8; IMAGE];
 
@@ -226,6 +226,14 @@ impl Work {
     /// zeros for the old bytes.
     #[inline(always)]
     fn record<'a>(&mut self, places: &'a mut [Place], head: &Head) -> &'a mut [u8; 256] {
+        let old = self.place(places, head);
+        clear(old);
+        old
+    }
+
+    /// The same, but the old bytes are as they came.
+    #[inline(always)]
+    fn place<'a>(&mut self, places: &'a mut [Place], head: &Head) -> &'a mut [u8; 256] {
         let count = places.len();
         let place = &mut places[self.next];
         self.next += 1;
@@ -236,7 +244,6 @@ impl Work {
         let (first, rest) = place.split_first_chunk_mut().expect("292 hold 32");
         head.write(first);
         let (old, inputs) = rest.split_first_chunk_mut().expect("260 hold 256");
-        clear(old);
         inputs.copy_from_slice(&head.inputs.to_be_bytes());
         old
     }
@@ -254,7 +261,7 @@ impl Work {
     fn step(
         &mut self,
         memory: &mut Memory,
-        picture: &mut Picture,
+        rows: &mut Rows,
         places: &mut [Place],
         keys: u16,
         random: u8,
@@ -279,9 +286,8 @@ impl Work {
                 0x0E0 => {
                     head.mark(b"DI", 0, PICTURE);
                     self.copied += PICTURE as u64;
-                    let old = self.record(places, &head);
-                    *old = *picture;
-                    picture.fill(0);
+                    write_bytes(rows, self.place(places, &head));
+                    rows.fill(0);
                     self.pc = pc;
                     self.held = NO_KEY;
                     return 0;
@@ -367,19 +373,24 @@ impl Work {
                     head.mark(b"DI", 8 * row, 8 * shown);
                     self.copied += 8 * shown as u64;
                     let old = self.record(places, &head);
-                    let rows = &mut picture.as_chunks_mut::<8>().0[row..row + shown];
+                    let rows = &mut rows[row..row + shown];
+                    let (pairs, single) = rows.as_chunks_mut::<2>();
+                    let (patterns, last) = pattern[..shown].as_chunks::<2>();
+                    let (kept, rest) = old.as_chunks_mut().0.split_at_mut(2 * pairs.len());
                     // A byte for each row: its spots that were lit under a 1
-                    // bit. So all fifteen rows are counted at once.
+                    // bit. So all fifteen rows are counted at once. Two rows in
+                    // a turn are quicker than one.
                     let mut met = 0u128;
-                    for ((spots, byte), kept) in
-                        rows.iter_mut().zip(pattern).zip(old.as_chunks_mut().0)
+                    for (([upper, lower], [first, second]), [kept, below]) in
+                        pairs.iter_mut().zip(patterns).zip(kept.as_chunks_mut().0)
                     {
-                        let before = u64::from_be_bytes(*spots);
-                        let bits = u64::from(*byte) << 56 >> column;
-                        *kept = *spots;
-                        *spots = (before ^ bits).to_be_bytes();
-                        let under = (before << column >> 56) as u8;
-                        met = met << 8 | u128::from(under & byte);
+                        let both = draw_row(upper, *first, column, kept) >> 8
+                            | draw_row(lower, *second, column, below);
+                        met = met >> 16 | u128::from(both) << 64;
+                    }
+                    if let ([row], [byte]) = (single, last) {
+                        let one = draw_row(row, *byte, column, &mut rest[0]);
+                        met = met >> 8 | u128::from(one) << 64;
                     }
                     self.went_dark += u64::from(met.count_ones());
                     self.v.set_flag(met != 0);
@@ -465,7 +476,7 @@ impl Work {
     }
 
     #[inline(always)]
-    fn back(&mut self, memory: &mut Memory, picture: &mut Picture, places: &[Place]) -> u32 {
+    fn back(&mut self, memory: &mut Memory, rows: &mut Rows, places: &[Place]) -> u32 {
         if self.kept == 0 {
             return NOTHING_KEPT;
         }
@@ -493,7 +504,7 @@ impl Work {
                 memory[start..start + count].copy_from_slice(&record[32..32 + count]);
             }
             [b'D', b'I'] if (1..=256).contains(&count) && start + count <= PICTURE => {
-                picture[start..start + count].copy_from_slice(&record[32..32 + count]);
+                put_back(rows, start, &record[32..32 + count]);
             }
             _ => return DAMAGED_RECORD,
         }
@@ -516,7 +527,7 @@ impl Work {
     }
 
     #[inline(always)]
-    fn forward(&mut self, memory: &mut Memory, picture: &mut Picture, places: &mut [Place]) -> u32 {
+    fn forward(&mut self, memory: &mut Memory, rows: &mut Rows, places: &mut [Place]) -> u32 {
         if self.ahead == 0 {
             return NOTHING_AHEAD;
         }
@@ -528,7 +539,7 @@ impl Work {
             }
             1 => {
                 let keys = u16::from_be_bytes([high, low]);
-                self.step(memory, picture, places, keys, random)
+                self.step(memory, rows, places, keys, random)
             }
             _ => DAMAGED_RECORD,
         };
@@ -564,6 +575,41 @@ fn clear(old: &mut [u8; 256]) {
     middle.fill(0);
 }
 
+/// Draws a byte of a pattern over a row and keeps the row as it was. Answers, in
+/// the highest byte, which spots were lit under a 1 bit.
+#[inline(always)]
+fn draw_row(row: &mut u64, byte: u8, column: u8, kept: &mut [u8; 8]) -> u64 {
+    let before = *row;
+    let bits = u64::from(byte) << 56;
+    *kept = before.to_be_bytes();
+    *row = before ^ bits >> column;
+    before << column & bits
+}
+
+#[inline(always)]
+fn write_bytes(rows: &Rows, picture: &mut [u8; PICTURE]) {
+    for (bytes, row) in picture.as_chunks_mut().0.iter_mut().zip(rows) {
+        *bytes = row.to_be_bytes();
+    }
+}
+
+/// Old bytes from a place of the picture on. Those of the engine's own records are
+/// whole rows; a record of another hand may begin and end inside a row.
+#[inline(always)]
+fn put_back(rows: &mut Rows, start: usize, old: &[u8]) {
+    if start.is_multiple_of(8) && old.len().is_multiple_of(8) {
+        for (row, bytes) in rows[start / 8..].iter_mut().zip(old.as_chunks().0) {
+            *row = u64::from_be_bytes(*bytes);
+        }
+    } else {
+        for (at, byte) in (start..).zip(old) {
+            let shift = 56 - 8 * (at % 8);
+            let row = &mut rows[at / 8];
+            *row = *row & !(0xFF << shift) | u64::from(*byte) << shift;
+        }
+    }
+}
+
 /// The bytes of V0 to VX in a 16-byte number.
 #[inline(always)]
 fn up_to(x: usize) -> u128 {
@@ -596,7 +642,7 @@ fn fetch(memory: &Memory, i: usize, x: usize, v: &mut Registers) {
     v.0 = v.0 & !up_to(x) | u128::from_be_bytes(bytes) & up_to(x);
 }
 
-// ---- The seven calls ------------------------------------------------------
+// ---- The nine calls -------------------------------------------------------
 
 /// The hand-tuned rival of the measurements.
 pub struct Tuned;
@@ -611,16 +657,16 @@ fn places_of(history: &mut [u8]) -> Option<&mut [Place]> {
 struct Fitting<'a> {
     image: &'a mut Image,
     memory: &'a mut Memory,
-    picture: &'a mut Picture,
+    rows: &'a mut Rows,
     places: &'a mut [Place],
 }
 
 #[inline(always)]
-fn fitting(lent: Lent<'_>) -> Option<Fitting<'_>> {
+fn fitting(lent: Lent<'_, u64>) -> Option<Fitting<'_>> {
     Some(Fitting {
         image: lent.image.try_into().ok()?,
         memory: lent.memory.try_into().ok()?,
-        picture: lent.picture.try_into().ok()?,
+        rows: lent.picture.try_into().ok()?,
         places: places_of(lent.history)?,
     })
 }
@@ -641,12 +687,12 @@ fn entries(lists: Lists<'_>) -> impl Iterator<Item = (u8, u16, u8)> + '_ {
         .map(|((first, keys), random)| (*first, *keys, *random))
 }
 
-impl Engine for Tuned {
+impl Engine<u64> for Tuned {
     fn name(&self) -> &'static str {
         "the hand-tuned engine"
     }
 
-    fn load(&self, lent: Lent, program: &[u8], edition: u8) -> u32 {
+    fn load(&self, lent: Lent<u64>, program: &[u8], edition: u8) -> u32 {
         let Ok(image) = <&mut Image>::try_from(lent.image) else {
             return LENGTH;
         };
@@ -655,8 +701,8 @@ impl Engine for Tuned {
         image[23] = NO_KEY;
         let listed = edition <= SECOND_EDITION;
         image[52] = if listed { edition } else { FIRST_EDITION };
-        let (memory, picture, history) = (lent.memory, lent.picture, lent.history);
-        if memory.len() != MEMORY || picture.len() != PICTURE || places_of(history).is_none() {
+        let (memory, rows, history) = (lent.memory, lent.picture, lent.history);
+        if memory.len() != MEMORY || rows.len() != ROWS || places_of(history).is_none() {
             return LENGTH;
         }
         if !listed {
@@ -668,14 +714,14 @@ impl Engine for Tuned {
         memory.fill(0);
         memory[..DIGITS.len()].copy_from_slice(&DIGITS);
         memory[START..START + program.len()].copy_from_slice(program);
-        picture.fill(0);
+        rows.fill(0);
         history.fill(0);
         0
     }
 
     /// Never inlined, so that it is measured as a call like the card's own.
     #[inline(never)]
-    fn step(&self, lent: Lent, keys: u16, random: u8, answer: &mut [u64]) -> u32 {
+    fn step(&self, lent: Lent<u64>, keys: u16, random: u8, answer: &mut [u64]) -> u32 {
         let Ok(answer) = <&mut [u64; ANSWER]>::try_from(answer) else {
             return LENGTH;
         };
@@ -686,7 +732,7 @@ impl Engine for Tuned {
         let Some(mut work) = Work::read(lent.image, lent.places.len()) else {
             return UNSOUND;
         };
-        let refusal = work.step(lent.memory, lent.picture, lent.places, keys, random);
+        let refusal = work.step(lent.memory, lent.rows, lent.places, keys, random);
         if refusal == 0 {
             work.ahead = 0;
             work.write(lent.image);
@@ -696,7 +742,7 @@ impl Engine for Tuned {
         refusal
     }
 
-    fn tick(&self, lent: Lent) -> u32 {
+    fn tick(&self, lent: Lent<u64>) -> u32 {
         let image = <&mut Image>::try_from(lent.image);
         let (Ok(image), Some(places)) = (image, places_of(lent.history)) else {
             return LENGTH;
@@ -710,35 +756,35 @@ impl Engine for Tuned {
         0
     }
 
-    fn back(&self, lent: Lent) -> u32 {
+    fn back(&self, lent: Lent<u64>) -> u32 {
         let Some(lent) = fitting(lent) else {
             return LENGTH;
         };
         let Some(mut work) = Work::read(lent.image, lent.places.len()) else {
             return UNSOUND;
         };
-        let refusal = work.back(lent.memory, lent.picture, lent.places);
+        let refusal = work.back(lent.memory, lent.rows, lent.places);
         if refusal == 0 {
             work.write(lent.image);
         }
         refusal
     }
 
-    fn forward(&self, lent: Lent) -> u32 {
+    fn forward(&self, lent: Lent<u64>) -> u32 {
         let Some(lent) = fitting(lent) else {
             return LENGTH;
         };
         let Some(mut work) = Work::read(lent.image, lent.places.len()) else {
             return UNSOUND;
         };
-        let refusal = work.forward(lent.memory, lent.picture, lent.places);
+        let refusal = work.forward(lent.memory, lent.rows, lent.places);
         if refusal == 0 {
             work.write(lent.image);
         }
         refusal
     }
 
-    fn run(&self, lent: Lent, lists: Lists, answer: &mut [u64]) -> u32 {
+    fn run(&self, lent: Lent<u64>, lists: Lists, answer: &mut [u64]) -> u32 {
         let Ok(answer) = <&mut [u64; ANSWER]>::try_from(answer) else {
             return LENGTH;
         };
@@ -755,7 +801,7 @@ impl Engine for Tuned {
             for _ in 0..ticks {
                 work.tick(lent.places);
             }
-            refusal = work.step(lent.memory, lent.picture, lent.places, keys, random);
+            refusal = work.step(lent.memory, lent.rows, lent.places, keys, random);
             if refusal != 0 {
                 break;
             }
@@ -772,7 +818,7 @@ impl Engine for Tuned {
         refusal
     }
 
-    fn play(&self, lent: Lent, lists: Lists) -> u32 {
+    fn play(&self, lent: Lent<u64>, lists: Lists) -> u32 {
         let moves = lists.first;
         let fits = lists_fit(lists) && moves.iter().all(|&made| made <= 3);
         let Some(lent) = fitting(lent).filter(|_| fits) else {
@@ -785,7 +831,7 @@ impl Engine for Tuned {
         for (made, keys, random) in entries(lists) {
             refusal = match made {
                 0 => {
-                    let refusal = work.step(lent.memory, lent.picture, lent.places, keys, random);
+                    let refusal = work.step(lent.memory, lent.rows, lent.places, keys, random);
                     if refusal == 0 {
                         work.ahead = 0;
                     }
@@ -796,11 +842,30 @@ impl Engine for Tuned {
                     work.ahead = 0;
                     0
                 }
-                2 => work.back(lent.memory, lent.picture, lent.places),
-                _ => work.forward(lent.memory, lent.picture, lent.places),
+                2 => work.back(lent.memory, lent.rows, lent.places),
+                _ => work.forward(lent.memory, lent.rows, lent.places),
             };
         }
         work.write(lent.image);
         refusal
+    }
+
+    fn rows(&self, picture: &[u8], rows: &mut [u64]) -> u32 {
+        let (Ok(picture), Ok(rows)) = (
+            <&[u8; PICTURE]>::try_from(picture),
+            <&mut Rows>::try_from(rows),
+        ) else {
+            return LENGTH;
+        };
+        put_back(rows, 0, picture);
+        0
+    }
+
+    fn bytes(&self, rows: &[u64], picture: &mut [u8]) -> u32 {
+        let (Ok(rows), Ok(picture)) = (<&Rows>::try_from(rows), picture.try_into()) else {
+            return LENGTH;
+        };
+        write_bytes(rows, picture);
+        0
     }
 }

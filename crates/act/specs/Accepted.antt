@@ -5,12 +5,12 @@ use Prim.Native.Nat.{ℕ, _-_, _≤_}
 use lib.ListN.{length}
 use Rattle.rules.specs.declared.Machine.{Machine}
 use Rattle.rules.specs.declared.Op.{Op}
-use Rattle.rules.specs.State.{memorySize, pictureSize, stackSize}
+use Rattle.rules.specs.State.{memorySize, stackSize}
 use Rattle.rules.specs.Step.{refusalOf}
 
-pub record Accepted (op : Op) (m : Machine) (mem pic : List ℕ) : Type 0 where
+pub record Accepted (op : Op) (m : Machine) (mem picture : List ℕ) : Type 0 where
   pub near : m .pc ≤ memorySize - 2
   pub shallow : m .depth ≤ stackSize
   pub allowed : refusalOf op m ≡ 0
   pub memory : length mem ≡ memorySize
-  pub picture : length pic ≡ pictureSize
+  pub rows : length picture ≡ 32

@@ -3,6 +3,7 @@ ghost use mathlib.Core.Path.{_≡_};
 ghost use Prim.Native.Nat.{_*_, _≤_};
 ghost use Rattle.rules.specs.Step.{after};
 ghost use Rattle.rules.specs.Dark.{darkOf};
+ghost use Rattle.rules.specs.Rows.{bytesOf};
 ghost use Rattle.parts.specs.Whole.{whole};
 ghost use Rattle.act.specs.Accepted.{Accepted};
 ghost use Rattle.act.specs.Became.{Became};
@@ -21,15 +22,15 @@ pub fn act(
     v: &mut [u8; 16],
     stack: &mut [u16; Machine::STACK],
     memory: &mut [u8],
-    picture: &mut [u8],
+    rows: &mut [u64],
     keys: u16,
     random: u8,
 ) -> Acted
-    requires { ⌜ Accepted op (whole c (now v) (now stack)) (now memory) (now picture) ⌝ }
+    requires { ⌜ Accepted op (whole c (now v) (now stack)) (now memory) (now rows) ⌝ }
     ensures { λ r. ⌜ Became
-        (after op keys random (whole c (now (v .entry)) (now (stack .entry))) (now (memory .entry)) (now (picture .entry)))
-        (whole (r .core) (now (v .exit)) (now (stack .exit))) (now (memory .exit)) (now (picture .exit)) ⌝ }
-    ensures { λ r. ⌜ (r .dark ≡ darkOf op (whole c (now (v .entry)) (now (stack .entry))) (now (memory .entry)) (now (picture .entry)))
+        (after op keys random (whole c (now (v .entry)) (now (stack .entry))) (now (memory .entry)) (bytesOf (now (rows .entry))))
+        (whole (r .core) (now (v .exit)) (now (stack .exit))) (now (memory .exit)) (bytesOf (now (rows .exit))) ⌝ }
+    ensures { λ r. ⌜ (r .dark ≡ darkOf op (whole c (now (v .entry)) (now (stack .entry))) (now (memory .entry)) (bytesOf (now (rows .entry))))
         × (r .dark ≤ 8 * patternBytes op) ⌝ }
 {
     let core = match op {
@@ -38,10 +39,10 @@ pub fn act(
         Op::Call(a) => registers::idle(registers::called(c, stack, a)),
         Op::Return => registers::idle(registers::returned(c, stack)),
         Op::Clear => {
-            picture::clear(picture);
+            picture::clear(rows);
             registers::idle(registers::onward(c))
         }
-        Op::Draw(x, y, n) => return draw(c, v, x, y, pattern(c.i, n, memory), picture),
+        Op::Draw(x, y, n) => return draw(c, v, x, y, pattern(c.i, n, memory), rows),
         Op::Decimal(x) => transfers::decimal(c, v, x, memory),
         Op::Store(x) => transfers::store(c, v, x, memory),
         Op::Fetch(x) => transfers::fetch(c, v, x, memory),

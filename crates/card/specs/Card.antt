@@ -16,6 +16,7 @@ use Rattle.rules.specs.State.{sound}
 use Rattle.page_spots.specs.Page.{PageOf}
 use Rattle.stepper.specs.Dock.{drawRefusal, pageAfter}
 use Rattle.stepper.specs.Dock.{fits as pageFits}
+use Rattle.turning.specs.Turn.{turnRefusal, rowsAfter, bytesAfter}
 use Rattle.panel.specs.Panel.{fits, panelRefusal, panelAfter, PanelOf}
 use Rattle.image.specs.Image.{imageSize, machineOf}
 use Rattle.imaged.specs.Imaged.{Card, worldOf, shown, loadBy, whole, ranOn, playedOn}
@@ -90,7 +91,7 @@ unfoldable pub runHasCopied : List ℕ → List ℕ → List ℕ → List ℕ �
 runHasCopied ticks keys randoms image memory picture history =
     pick (sized image) (runCopied ticks keys randoms (worldOf image memory picture history)) 0
 
--- ---- the promises of the page and of the panel
+-- ---- the promises of the page, of the panel and of the two turnings
 
 -- what the page leaves, for which the image is only read: its number, every byte, and of a page that is drawn every spot
 pub record LeavesPage (n : ℕ) (image before after : List ℕ) : Type 0 where
@@ -103,3 +104,12 @@ pub record LeavesPanel (n : ℕ) (picture before after : List ℕ) : Type 0 wher
   pub says : n ≡ panelRefusal picture before
   pub bytes : after ≡ panelAfter picture before
   pub dots : fits picture before ≡ true → PanelOf picture after
+
+-- what the turnings leave, which are lent no image either: the number, and every row or every byte
+pub record LeavesRows (n : ℕ) (picture before after : List ℕ) : Type 0 where
+  pub says : n ≡ turnRefusal picture before
+  pub rows : after ≡ rowsAfter picture before
+
+pub record LeavesBytes (n : ℕ) (rows before after : List ℕ) : Type 0 where
+  pub says : n ≡ turnRefusal before rows
+  pub bytes : after ≡ bytesAfter rows before

@@ -7,8 +7,9 @@ ghost use Prim.Native.Nat.{ℕ};
 ghost use lib.Dec.{eqb};
 ghost use Rattle.rules.specs.Number.{pick};
 ghost use Rattle.rules.specs.Past.{PlayTells};
+ghost use Rattle.rules.specs.Rows.{bytesOf};
 ghost use Rattle.imaged.specs.Imaged.{worldOf, Leaves};
-ghost use Rattle.card.specs.Card.{sized, answers, answered, LeavesPage, LeavesPanel};
+ghost use Rattle.card.specs.Card.{sized, answers, answered, LeavesPage, LeavesPanel, LeavesRows, LeavesBytes};
 ghost use Rattle.card.specs.Card as spec;
 
 // How many numbers an answer has.
@@ -34,24 +35,24 @@ pub extern "C" fn card_load(
     edition: u8,
     image: &mut [u8],
     memory: &mut [u8],
-    picture: &mut [u8],
+    rows: &mut [u64],
     history: &mut [u8],
 ) -> u32
     ensures { λ r. ⌜ Leaves
-        (spec.cardLoad (now (program .entry)) edition (now (image .entry)) (now (memory .entry)) (now (picture .entry))
-        (now (history .entry))) r (now (image .exit)) (now (memory .exit)) (now (picture .exit)) (now (history .exit)) ⌝ }
+        (spec.cardLoad (now (program .entry)) edition (now (image .entry)) (now (memory .entry)) (bytesOf (now (rows .entry)))
+        (now (history .entry))) r (now (image .exit)) (now (memory .exit)) (bytesOf (now (rows .exit))) (now (history .exit)) ⌝ }
 {
     if image.len() != image::IMAGE {
         return 9;
     }
-    imaged::load(program, edition, image, memory, picture, history)
+    imaged::load(program, edition, image, memory, rows, history)
 }
 
 #[no_mangle]
 pub extern "C" fn card_step(
     image: &mut [u8],
     memory: &mut [u8],
-    picture: &mut [u8],
+    rows: &mut [u64],
     history: &mut [u8],
     keys: u16,
     random: u8,
@@ -59,10 +60,10 @@ pub extern "C" fn card_step(
 ) -> u32
     ensures { λ r. ⌜ Leaves
         (spec.cardStep keys random (answers (now (answer .entry))) (now (image .entry)) (now (memory .entry))
-        (now (picture .entry)) (now (history .entry))) r (now (image .exit)) (now (memory .exit)) (now (picture .exit))
+        (bytesOf (now (rows .entry))) (now (history .entry))) r (now (image .exit)) (now (memory .exit)) (bytesOf (now (rows .exit)))
         (now (history .exit)) ⌝ }
     ensures { λ r. ⌜ now (answer .exit) ≡ answered (pick (eqb r 0) 1 0)
-        (spec.stepWentDark (now (image .entry)) (now (memory .entry)) (now (picture .entry)) (now (history .entry))) 0
+        (spec.stepWentDark (now (image .entry)) (now (memory .entry)) (bytesOf (now (rows .entry))) (now (history .entry))) 0
         (now (answer .entry)) ⌝ }
 {
     if image.len() != image::IMAGE {
@@ -72,7 +73,7 @@ pub extern "C" fn card_step(
     if answer.len() != ANSWER {
         return 9;
     }
-    let told = imaged::step(image, memory, picture, history, keys, random);
+    let told = imaged::step(image, memory, rows, history, keys, random);
     put_answer(answer, told.accepted, told.dark, 0);
     told.number
 }
@@ -93,40 +94,40 @@ pub extern "C" fn card_tick(image: &mut [u8], history: &mut [u8]) -> u32
 pub extern "C" fn card_back(
     image: &mut [u8],
     memory: &mut [u8],
-    picture: &mut [u8],
+    rows: &mut [u64],
     history: &[u8],
 ) -> u32
-    ensures { λ r. ⌜ Leaves (spec.cardBack (now (image .entry)) (now (memory .entry)) (now (picture .entry)) (now (history .entry)))
-        r (now (image .exit)) (now (memory .exit)) (now (picture .exit)) (now (history .entry)) ⌝ }
+    ensures { λ r. ⌜ Leaves (spec.cardBack (now (image .entry)) (now (memory .entry)) (bytesOf (now (rows .entry))) (now (history .entry)))
+        r (now (image .exit)) (now (memory .exit)) (bytesOf (now (rows .exit))) (now (history .entry)) ⌝ }
 {
     if image.len() != image::IMAGE {
         return 9;
     }
-    imaged::back(image, memory, picture, history)
+    imaged::back(image, memory, rows, history)
 }
 
 #[no_mangle]
 pub extern "C" fn card_forward(
     image: &mut [u8],
     memory: &mut [u8],
-    picture: &mut [u8],
+    rows: &mut [u64],
     history: &mut [u8],
 ) -> u32
     ensures { λ r. ⌜ Leaves
-        (spec.cardForward (now (image .entry)) (now (memory .entry)) (now (picture .entry)) (now (history .entry))) r
-        (now (image .exit)) (now (memory .exit)) (now (picture .exit)) (now (history .exit)) ⌝ }
+        (spec.cardForward (now (image .entry)) (now (memory .entry)) (bytesOf (now (rows .entry))) (now (history .entry))) r
+        (now (image .exit)) (now (memory .exit)) (bytesOf (now (rows .exit))) (now (history .exit)) ⌝ }
 {
     if image.len() != image::IMAGE {
         return 9;
     }
-    imaged::forward(image, memory, picture, history)
+    imaged::forward(image, memory, rows, history)
 }
 
 #[no_mangle]
 pub extern "C" fn card_run(
     image: &mut [u8],
     memory: &mut [u8],
-    picture: &mut [u8],
+    rows: &mut [u64],
     history: &mut [u8],
     ticks: &[u8],
     keys: &[u16],
@@ -135,15 +136,15 @@ pub extern "C" fn card_run(
 ) -> u32
     ensures { λ r. ⌜ Leaves
         (spec.cardRun (now (ticks .entry)) (now (keys .entry)) (now (randoms .entry)) (answers (now (answer .entry)))
-        (now (image .entry)) (now (memory .entry)) (now (picture .entry)) (now (history .entry))) r (now (image .exit))
-        (now (memory .exit)) (now (picture .exit)) (now (history .exit)) ⌝ }
+        (now (image .entry)) (now (memory .entry)) (bytesOf (now (rows .entry))) (now (history .entry))) r (now (image .exit))
+        (now (memory .exit)) (bytesOf (now (rows .exit))) (now (history .exit)) ⌝ }
     ensures { λ r. ⌜ now (answer .exit) ≡ answered
         (spec.runAccepted (now (ticks .entry)) (now (keys .entry)) (now (randoms .entry)) (now (image .entry))
-        (now (memory .entry)) (now (picture .entry)) (now (history .entry)))
+        (now (memory .entry)) (bytesOf (now (rows .entry))) (now (history .entry)))
         (spec.runWentDark (now (ticks .entry)) (now (keys .entry)) (now (randoms .entry)) (now (image .entry))
-        (now (memory .entry)) (now (picture .entry)) (now (history .entry)))
+        (now (memory .entry)) (bytesOf (now (rows .entry))) (now (history .entry)))
         (spec.runHasCopied (now (ticks .entry)) (now (keys .entry)) (now (randoms .entry)) (now (image .entry))
-        (now (memory .entry)) (now (picture .entry)) (now (history .entry))) (now (answer .entry)) ⌝ }
+        (now (memory .entry)) (bytesOf (now (rows .entry))) (now (history .entry))) (now (answer .entry)) ⌝ }
 {
     if image.len() != image::IMAGE {
         put_answer(answer, 0, 0, 0);
@@ -152,7 +153,7 @@ pub extern "C" fn card_run(
     if answer.len() != ANSWER {
         return 9;
     }
-    let told = imaged_lists::run(image, memory, picture, history, ticks, keys, randoms);
+    let told = imaged_lists::run(image, memory, rows, history, ticks, keys, randoms);
     put_answer(answer, told.accepted, told.dark, told.copied);
     told.number
 }
@@ -161,7 +162,7 @@ pub extern "C" fn card_run(
 pub extern "C" fn card_play(
     image: &mut [u8],
     memory: &mut [u8],
-    picture: &mut [u8],
+    rows: &mut [u64],
     history: &mut [u8],
     moves: &[u8],
     keys: &[u16],
@@ -169,17 +170,17 @@ pub extern "C" fn card_play(
 ) -> u32
     ensures { λ r. ⌜ Leaves
         (spec.cardPlay (now (moves .entry)) (now (keys .entry)) (now (randoms .entry)) (now (image .entry)) (now (memory .entry))
-        (now (picture .entry)) (now (history .entry))) r (now (image .exit)) (now (memory .exit)) (now (picture .exit))
+        (bytesOf (now (rows .entry))) (now (history .entry))) r (now (image .exit)) (now (memory .exit)) (bytesOf (now (rows .exit)))
         (now (history .exit)) ⌝ }
     ensures { λ r. ⌜
         (sized (now (image .entry)) ≡ true → PlayTells (now (moves .entry)) (now (keys .entry)) (now (randoms .entry))
-        (worldOf (now (image .entry)) (now (memory .entry)) (now (picture .entry)) (now (history .entry)))
-        (worldOf (now (image .exit)) (now (memory .exit)) (now (picture .exit)) (now (history .exit)))) ⌝ }
+        (worldOf (now (image .entry)) (now (memory .entry)) (bytesOf (now (rows .entry))) (now (history .entry)))
+        (worldOf (now (image .exit)) (now (memory .exit)) (bytesOf (now (rows .exit))) (now (history .exit)))) ⌝ }
 {
     if image.len() != image::IMAGE {
         return 9;
     }
-    imaged_lists::play(image, memory, picture, history, moves, keys, randoms)
+    imaged_lists::play(image, memory, rows, history, moves, keys, randoms)
 }
 
 #[no_mangle]
@@ -200,5 +201,21 @@ pub extern "C" fn card_panel(picture: &[u8], panel: &mut [u8]) -> u32
     ensures { λ r. ⌜ LeavesPanel r (now (picture .entry)) (now (panel .entry)) (now (panel .exit)) ⌝ }
 {
     let outcome = panel::panel(picture, panel);
+    imaged::number(outcome)
+}
+
+#[no_mangle]
+pub extern "C" fn card_rows(picture: &[u8], rows: &mut [u64]) -> u32
+    ensures { λ r. ⌜ LeavesRows r (now (picture .entry)) (now (rows .entry)) (now (rows .exit)) ⌝ }
+{
+    let outcome = chip8::to_rows(picture, rows);
+    imaged::number(outcome)
+}
+
+#[no_mangle]
+pub extern "C" fn card_bytes(rows: &[u64], picture: &mut [u8]) -> u32
+    ensures { λ r. ⌜ LeavesBytes r (now (rows .entry)) (now (picture .entry)) (now (picture .exit)) ⌝ }
+{
+    let outcome = chip8::to_bytes(rows, picture);
     imaged::number(outcome)
 }

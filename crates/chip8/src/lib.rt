@@ -23,6 +23,10 @@ pub use running::run;
 // came of the last.
 pub use playing::play;
 
+// Turn the bytes of a picture to the rows that these calls are lent, and back.
+pub use turning::to_bytes;
+pub use turning::to_rows;
+
 // For what is built above the library: the tests 9 and 10, whether a state is sound, and a line of a digit's published shape.
 pub use digits::shape_line;
 pub use judge::is_sound;

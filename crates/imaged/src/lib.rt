@@ -15,6 +15,7 @@ ghost use Rattle.rules.specs.Load.{freshTrail};
 ghost use Rattle.rules.specs.Load as rules_load;
 ghost use Rattle.rules.specs.Call as rules_call;
 ghost use Rattle.rules.specs.Dark.{stepDark};
+ghost use Rattle.rules.specs.Rows.{bytesOf};
 ghost use Rattle.image.specs.Image.{imageSize, imageOf};
 ghost use Rattle.imaged.specs.Imaged.{worldOf, shown, loadBy, whole, Leaves};
 use parts::Answer;
@@ -72,16 +73,16 @@ fn load_known(
     program: &[u8],
     image: &mut [u8],
     memory: &mut [u8],
-    picture: &mut [u8],
+    rows: &mut [u64],
     history: &mut [u8],
 ) -> u32
     requires { ⌜ length (now image) ≡ imageSize ⌝ }
     ensures { λ r. ⌜ Leaves
         (shown true (now (image .entry))
-        (rules_load.load edition (now (program .entry)) (now (memory .entry)) (now (picture .entry)) (now (history .entry)))) r
-        (now (image .exit)) (now (memory .exit)) (now (picture .exit)) (now (history .exit)) ⌝ }
+        (rules_load.load edition (now (program .entry)) (now (memory .entry)) (bytesOf (now (rows .entry))) (now (history .entry)))) r
+        (now (image .exit)) (now (memory .exit)) (bytesOf (now (rows .exit))) (now (history .exit)) ⌝ }
 {
-    let answer = chip8::load(edition, program, memory, picture, history);
+    let answer = chip8::load(edition, program, memory, rows, history);
     let m = answer.machine;
     let t = answer.trail;
     image::write(image, m, t);
@@ -90,9 +91,9 @@ fn load_known(
 }
 
 // An edition that there is not: 9 comes before 10, and the fresh image is of the first edition.
-fn load_unknown(image: &mut [u8], memory: &[u8], picture: &[u8], history: &[u8]) -> u32
+fn load_unknown(image: &mut [u8], memory: &[u8], rows: &[u64], history: &[u8]) -> u32
     requires { ⌜ length (now image) ≡ imageSize ⌝ }
-    ensures { λ r. ⌜ (r ≡ unless (sizesFit (now (memory .entry)) (now (picture .entry)) (now (history .entry))) 9 10)
+    ensures { λ r. ⌜ (r ≡ unless (sizesFit (now (memory .entry)) (bytesOf (now (rows .entry))) (now (history .entry))) 9 10)
         × (now (image .exit) ≡ imageOf (fresh First) freshTrail) ⌝ }
 {
     image::write(
@@ -104,7 +105,7 @@ fn load_unknown(image: &mut [u8], memory: &[u8], picture: &[u8], history: &[u8])
             ahead: 0,
         },
     );
-    if judge::sizes_fit(memory, picture, history) {
+    if judge::sizes_fit(memory, rows, history) {
         10
     } else {
         9
@@ -117,24 +118,24 @@ pub fn load(
     edition: u8,
     image: &mut [u8],
     memory: &mut [u8],
-    picture: &mut [u8],
+    rows: &mut [u64],
     history: &mut [u8],
 ) -> u32
     requires { ⌜ length (now image) ≡ imageSize ⌝ }
     ensures { λ r. ⌜ Leaves
         (shown true (now (image .entry))
-        (loadBy edition (now (program .entry)) (now (memory .entry)) (now (picture .entry)) (now (history .entry)))) r
-        (now (image .exit)) (now (memory .exit)) (now (picture .exit)) (now (history .exit)) ⌝ }
+        (loadBy edition (now (program .entry)) (now (memory .entry)) (bytesOf (now (rows .entry))) (now (history .entry)))) r
+        (now (image .exit)) (now (memory .exit)) (bytesOf (now (rows .exit))) (now (history .exit)) ⌝ }
 {
     if 1 < edition {
-        return load_unknown(image, memory, picture, history);
+        return load_unknown(image, memory, rows, history);
     }
     load_known(
         image::edition_of(edition),
         program,
         image,
         memory,
-        picture,
+        rows,
         history,
     )
 }
@@ -142,7 +143,7 @@ pub fn load(
 pub fn step(
     image: &mut [u8],
     memory: &mut [u8],
-    picture: &mut [u8],
+    rows: &mut [u64],
     history: &mut [u8],
     keys: u16,
     random: u8,
@@ -151,15 +152,15 @@ pub fn step(
     ensures { λ r. ⌜ Leaves
         (whole (now (image .entry))
         (rules_call.step keys random
-        (worldOf (now (image .entry)) (now (memory .entry)) (now (picture .entry)) (now (history .entry))))) (r .number)
-        (now (image .exit)) (now (memory .exit)) (now (picture .exit)) (now (history .exit)) ⌝ }
+        (worldOf (now (image .entry)) (now (memory .entry)) (bytesOf (now (rows .entry))) (now (history .entry))))) (r .number)
+        (now (image .exit)) (now (memory .exit)) (bytesOf (now (rows .exit))) (now (history .exit)) ⌝ }
     ensures { λ r. ⌜ (r .accepted ≡ pick (eqb (r .number) 0) 1 0) × (r .dark ≡ stepDark
-        (worldOf (now (image .entry)) (now (memory .entry)) (now (picture .entry)) (now (history .entry)))) ⌝ }
+        (worldOf (now (image .entry)) (now (memory .entry)) (bytesOf (now (rows .entry))) (now (history .entry)))) ⌝ }
 {
     let before = image::read(image);
     let m = before.machine;
     let t = before.trail;
-    let stepped = chip8::step(m, t, memory, picture, history, keys, random);
+    let stepped = chip8::step(m, t, memory, rows, history, keys, random);
     let outcome = stepped.outcome;
     let machine = stepped.machine;
     let trail = stepped.trail;
@@ -191,28 +192,28 @@ pub fn tick(image: &mut [u8], history: &mut [u8]) -> u32
     after_call(image, chip8::tick(m, t, history))
 }
 
-pub fn back(image: &mut [u8], memory: &mut [u8], picture: &mut [u8], history: &[u8]) -> u32
+pub fn back(image: &mut [u8], memory: &mut [u8], rows: &mut [u64], history: &[u8]) -> u32
     requires { ⌜ length (now image) ≡ imageSize ⌝ }
     ensures { λ r. ⌜ Leaves
         (whole (now (image .entry))
-        (rules_call.back (worldOf (now (image .entry)) (now (memory .entry)) (now (picture .entry)) (now (history .entry))))) r
-        (now (image .exit)) (now (memory .exit)) (now (picture .exit)) (now (history .entry)) ⌝ }
+        (rules_call.back (worldOf (now (image .entry)) (now (memory .entry)) (bytesOf (now (rows .entry))) (now (history .entry))))) r
+        (now (image .exit)) (now (memory .exit)) (bytesOf (now (rows .exit))) (now (history .entry)) ⌝ }
 {
     let before = image::read(image);
     let m = before.machine;
     let t = before.trail;
-    after_call(image, chip8::back(m, t, memory, picture, history))
+    after_call(image, chip8::back(m, t, memory, rows, history))
 }
 
-pub fn forward(image: &mut [u8], memory: &mut [u8], picture: &mut [u8], history: &mut [u8]) -> u32
+pub fn forward(image: &mut [u8], memory: &mut [u8], rows: &mut [u64], history: &mut [u8]) -> u32
     requires { ⌜ length (now image) ≡ imageSize ⌝ }
     ensures { λ r. ⌜ Leaves
         (whole (now (image .entry))
-        (rules_call.forward (worldOf (now (image .entry)) (now (memory .entry)) (now (picture .entry)) (now (history .entry))))) r
-        (now (image .exit)) (now (memory .exit)) (now (picture .exit)) (now (history .exit)) ⌝ }
+        (rules_call.forward (worldOf (now (image .entry)) (now (memory .entry)) (bytesOf (now (rows .entry))) (now (history .entry))))) r
+        (now (image .exit)) (now (memory .exit)) (bytesOf (now (rows .exit))) (now (history .exit)) ⌝ }
 {
     let before = image::read(image);
     let m = before.machine;
     let t = before.trail;
-    after_call(image, chip8::forward(m, t, memory, picture, history))
+    after_call(image, chip8::forward(m, t, memory, rows, history))
 }

@@ -8,6 +8,7 @@ ghost use Rattle.rules.specs.Run as rules_run;
 ghost use Rattle.rules.specs.Dark.{runDark};
 ghost use Rattle.rules.specs.Copied.{runCopied};
 ghost use Rattle.rules.specs.Past.{PlayTells};
+ghost use Rattle.rules.specs.Rows.{bytesOf};
 ghost use Rattle.image.specs.Image.{imageSize, inOrder, imageOf};
 ghost use Rattle.imaged.specs.Imaged.{worldOf, ranOn, playedOn, Leaves};
 use imaged::number;
@@ -42,7 +43,7 @@ fn after_list(image: &mut [u8], answer: Answer) -> u32
 pub fn run(
     image: &mut [u8],
     memory: &mut [u8],
-    picture: &mut [u8],
+    rows: &mut [u64],
     history: &mut [u8],
     ticks: &[u8],
     keys: &[u16],
@@ -51,19 +52,19 @@ pub fn run(
     requires { ⌜ length (now image) ≡ imageSize ⌝ }
     ensures { λ r. ⌜ Leaves
         (ranOn (now (ticks .entry)) (now (keys .entry)) (now (randoms .entry)) (now (image .entry)) (now (memory .entry))
-        (now (picture .entry)) (now (history .entry))) (r .number) (now (image .exit)) (now (memory .exit)) (now (picture .exit))
+        (bytesOf (now (rows .entry))) (now (history .entry))) (r .number) (now (image .exit)) (now (memory .exit)) (bytesOf (now (rows .exit)))
         (now (history .exit)) ⌝ }
     ensures { λ r. ⌜ (r .accepted ≡ (rules_run.run (now (ticks .entry)) (now (keys .entry)) (now (randoms .entry))
-        (worldOf (now (image .entry)) (now (memory .entry)) (now (picture .entry)) (now (history .entry)))) .accepted)
+        (worldOf (now (image .entry)) (now (memory .entry)) (bytesOf (now (rows .entry))) (now (history .entry)))) .accepted)
         × (r .dark ≡ runDark (now (ticks .entry)) (now (keys .entry)) (now (randoms .entry))
-        (worldOf (now (image .entry)) (now (memory .entry)) (now (picture .entry)) (now (history .entry))))
+        (worldOf (now (image .entry)) (now (memory .entry)) (bytesOf (now (rows .entry))) (now (history .entry))))
         × (r .copied ≡ runCopied (now (ticks .entry)) (now (keys .entry)) (now (randoms .entry))
-        (worldOf (now (image .entry)) (now (memory .entry)) (now (picture .entry)) (now (history .entry)))) ⌝ }
+        (worldOf (now (image .entry)) (now (memory .entry)) (bytesOf (now (rows .entry))) (now (history .entry)))) ⌝ }
 {
     let before = image::read(image);
     let m = before.machine;
     let t = before.trail;
-    let ran = chip8::run(m, t, memory, picture, history, ticks, keys, randoms);
+    let ran = chip8::run(m, t, memory, rows, history, ticks, keys, randoms);
     let outcome = ran.outcome;
     let machine = ran.machine;
     let trail = ran.trail;
@@ -86,7 +87,7 @@ pub fn run(
 pub fn play(
     image: &mut [u8],
     memory: &mut [u8],
-    picture: &mut [u8],
+    rows: &mut [u64],
     history: &mut [u8],
     moves: &[u8],
     keys: &[u16],
@@ -95,15 +96,15 @@ pub fn play(
     requires { ⌜ length (now image) ≡ imageSize ⌝ }
     ensures { λ r. ⌜ Leaves
         (playedOn (now (moves .entry)) (now (keys .entry)) (now (randoms .entry)) (now (image .entry)) (now (memory .entry))
-        (now (picture .entry)) (now (history .entry))) r (now (image .exit)) (now (memory .exit)) (now (picture .exit))
+        (bytesOf (now (rows .entry))) (now (history .entry))) r (now (image .exit)) (now (memory .exit)) (bytesOf (now (rows .exit)))
         (now (history .exit)) ⌝ }
     ensures { λ r. ⌜ PlayTells (now (moves .entry)) (now (keys .entry)) (now (randoms .entry))
-        (worldOf (now (image .entry)) (now (memory .entry)) (now (picture .entry)) (now (history .entry)))
-        (worldOf (now (image .exit)) (now (memory .exit)) (now (picture .exit)) (now (history .exit))) ⌝ }
+        (worldOf (now (image .entry)) (now (memory .entry)) (bytesOf (now (rows .entry))) (now (history .entry)))
+        (worldOf (now (image .exit)) (now (memory .exit)) (bytesOf (now (rows .exit))) (now (history .exit))) ⌝ }
 {
     let before = image::read(image);
     let m = before.machine;
     let t = before.trail;
-    let answer = chip8::play(m, t, memory, picture, history, moves, keys, randoms);
+    let answer = chip8::play(m, t, memory, rows, history, moves, keys, randoms);
     after_list(image, answer)
 }

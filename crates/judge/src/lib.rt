@@ -12,6 +12,7 @@ ghost use Rattle.rules.specs.World as fit;
 ghost use Rattle.rules.specs.World.{world};
 ghost use Rattle.rules.specs.Typed.{Below, TypedMachine};
 ghost use Rattle.rules.specs.declared.Outcome.the-variants.{Done};
+ghost use Rattle.rules.specs.Rows.{bytesOf};
 ghost use Rattle.rules.proofs.Ready.{Ready};
 use rules::Machine;
 use rules::Outcome;
@@ -33,11 +34,11 @@ pub fn history_fits(history: &[u8]) -> bool
 }
 
 // It also tells what the types say of the bytes that are lent, which the rules' theorems ask for.
-pub fn sizes_fit(memory: &[u8], picture: &[u8], history: &[u8]) -> bool
-    ensures { λ r. ⌜ r ≡ fit.sizesFit (now (memory .entry)) (now (picture .entry)) (now (history .entry)) ⌝ }
-    ensures { λ r. ⌜ Below 256 (now (memory .entry)) × Below 256 (now (picture .entry)) ⌝ }
+pub fn sizes_fit(memory: &[u8], rows: &[u64], history: &[u8]) -> bool
+    ensures { λ r. ⌜ r ≡ fit.sizesFit (now (memory .entry)) (bytesOf (now (rows .entry))) (now (history .entry)) ⌝ }
+    ensures { λ r. ⌜ Below 256 (now (memory .entry)) × Below 256 (bytesOf (now (rows .entry))) ⌝ }
 {
-    (memory.len() == Machine::MEMORY) & (picture.len() == Machine::PICTURE) & history_fits(history)
+    (memory.len() == Machine::MEMORY) & (rows.len() == Machine::ROWS) & history_fits(history)
 }
 
 fn held_sound(wait: Wait) -> bool
@@ -120,16 +121,16 @@ pub fn admitted(
     m: Machine,
     t: Trail,
     memory: &[u8],
-    picture: &[u8],
+    rows: &[u64],
     history: &[u8],
     lists: bool,
 ) -> Outcome
     ensures { λ r. ⌜ number r ≡ unless
-        (fit.buffersFit (world m t (now (memory .entry)) (now (picture .entry)) (now (history .entry))) && lists)
+        (fit.buffersFit (world m t (now (memory .entry)) (bytesOf (now (rows .entry))) (now (history .entry))) && lists)
         (numberOf BufferLength)
-        (unless (fit.soundly (world m t (now (memory .entry)) (now (picture .entry)) (now (history .entry)))) (numberOf Unsound) 0) ⌝ }
-    ensures { λ r. ⌜ (r ≡ Done → Ready (world m t (now (memory .entry)) (now (picture .entry)) (now (history .entry)))) ⌝ }
+        (unless (fit.soundly (world m t (now (memory .entry)) (bytesOf (now (rows .entry))) (now (history .entry)))) (numberOf Unsound) 0) ⌝ }
+    ensures { λ r. ⌜ (r ≡ Done → Ready (world m t (now (memory .entry)) (bytesOf (now (rows .entry))) (now (history .entry)))) ⌝ }
 {
-    let fits = sizes_fit(memory, picture, history) & lists;
+    let fits = sizes_fit(memory, rows, history) & lists;
     tested(fits, soundly(m, t, history))
 }

@@ -1,13 +1,22 @@
--- What is laid over a place: mark and fields, zeros behind them, old bytes over the first zeros, inputs behind the last, and the variables
--- between mark and fields.
+-- What is laid over a place: the mark and the fields, zeros behind them, the inputs behind the last, and the variables between mark and
+-- fields. Then, in the history, the old bytes over the first zeros.
 use mathlib.Core.Path.{_≡_, refl, sym, ap, _∙_}
 use mathlib.Core.List.{List, [], _++_, append-assoc, append-nil}
-use Prim.Native.Nat.{ℕ, _+_, _-_, _≤_}
+use Prim.Native.Nat.{ℕ, _+_, _-_, _*_, _≤_}
 use native.Mathlib.Omega.{arith}
 use lib.ListN.{length, take, drop, replicate, length-take, length-drop, length-append, length-replicate, replicate-append-replicate, drop-of-length-le}
 use lib.Seq.{take-at, drop-at, take-append-le, drop-append-add, take-take}
+use Rattle.rules.specs.declared.Action.{Action}
+use Rattle.rules.specs.declared.Machine.{Machine}
+use Rattle.rules.specs.declared.Change.{Change}
+use Rattle.rules.specs.declared.Change.the-variants.{Nothing}
 use Rattle.rules.specs.Memory.{over}
+use Rattle.rules.specs.Record.{old, count, mark, fields, inputs, recordWith}
+use Rattle.rules.specs.Rows.{bytesOf}
+use Rattle.rules.proofs.Back.{mark-two}
 use Rattle.rules.proofs.Laid.{behind}
+use Rattle.keeping.specs.Writable.{blank, Reaches}
+use Rattle.keeping.proofs.Reached.{old-counted}
 
 -- n zeros less, whatever stands behind them
 zeros-behind : (n k : ℕ) (t : List ℕ) → n ≤ k → drop n (replicate k 0 ++ t) ≡ replicate (k - n) 0 ++ t
@@ -19,9 +28,9 @@ zeros-behind n k t h =
 
 -- x is laid over the first of k zeros
 over-zeros : (p b x t : List ℕ) (at n k : ℕ) → p ≡ b ++ (replicate k 0 ++ t) → length b ≡ at → length x ≡ n → n ≤ k
-    → over p at x (length x) ≡ b ++ x ++ (replicate (k - n) 0 ++ t)
+    → over p at x n ≡ b ++ x ++ (replicate (k - n) 0 ++ t)
 over-zeros p b x t at n k e hb hx h =
-    rw (e, hx, take-at b (replicate k 0 ++ t) at hb, ← hb, drop-append-add b (replicate k 0 ++ t) n, zeros-behind n k t h)
+    rw (e, take-at b (replicate k 0 ++ t) at hb, ← hb, drop-append-add b (replicate k 0 ++ t) n, zeros-behind n k t h)
 
 -- x is laid over the last bytes
 over-last : (p q t x : List ℕ) (at : ℕ) → p ≡ q ++ t → length q ≡ at → length t ≡ length x → over p at x (length x) ≡ q ++ x
@@ -34,33 +43,59 @@ between : (p b m v r : List ℕ) → p ≡ b ++ r → length b ≡ 18 → take 2
 between p b m v r e hb hm =
     rw (e, take-append-le 2 b r (omega arith), hm, drop-at b r 18 hb)
 
--- five pieces, however they are put together
-five-pieces : (b f o z i : List ℕ) → b ++ f ++ o ++ z ++ i ≡ b ++ (f ++ o ++ z ++ i)
-five-pieces b f o z i = simp append-assoc
+-- pieces, however they are put together
+four-pieces : (b f z i : List ℕ) → b ++ f ++ z ++ i ≡ b ++ (f ++ z ++ i)
+four-pieces b f z i = simp append-assoc
 
--- a record: all of it is laid into a place
-pub record-laid : (p m f v old i : List ℕ) {p₁ p₂ p₃ p₄ p₅ p₆ y z x : List ℕ} (n : ℕ)
+-- a record without its old bytes: all of it is laid into a place
+pub blank-laid : (p m f v i : List ℕ) {p₁ p₂ p₃ p₄ p₅ y z x : List ℕ}
     → p₁ ≡ over p 0 y (length y) → y ≡ m → length m ≡ 2 → length p₁ ≡ 292
     → p₂ ≡ over p₁ 18 z (length z) → z ≡ f → length f ≡ 14 → length p₂ ≡ 292
     → p₃ ≡ over p₂ 32 (replicate 256 0) 256
-    → p₄ ≡ over p₃ 32 old (length old) → length old ≡ n → n ≤ 256
-    → p₅ ≡ over p₄ 288 x (length x) → x ≡ i → length i ≡ 4
-    → p₆ ≡ over p₅ 2 v 16
-    → p₆ ≡ m ++ v ++ f ++ old ++ replicate (256 - n) 0 ++ i
-record-laid p m f v old i {p₁} {p₂} {p₃} {p₄} {p₅} {p₆} {y} {z} {x} n e₁ hm two s₁ e₂ hf fourteen s₂ e₃ e₄ hn few e₅ hi four e₆ =
+    → p₄ ≡ over p₃ 288 x (length x) → x ≡ i → length i ≡ 4
+    → p₅ ≡ over p₄ 2 v 16
+    → p₅ ≡ m ++ v ++ f ++ replicate 256 0 ++ i
+blank-laid p m f v i {p₁} {p₂} {p₃} {p₄} {p₅} {y} {z} {x} e₁ hm two s₁ e₂ hf fourteen s₂ e₃ e₄ hi four e₅ =
     let b : List ℕ = take 18 p₁ in
-    let r : List ℕ = replicate (256 - n) 0 in
+    let o : List ℕ = replicate 256 0 in
     let t : List ℕ = drop 288 p₂ in
     let marked : take 2 p₁ ≡ m = behind p p₁ y m [] 0 2 e₁ (omega arith) hm two refl in
     let front : take 32 p₂ ≡ b ++ f = behind p₁ p₂ z f b 18 14 e₂ (omega arith) hf fourteen refl in
-    let cleared : p₃ ≡ b ++ f ++ (replicate 256 0 ++ t) = rw (e₃, front) (append-assoc (b ++ f) (replicate 256 0) t) in
     let sized : length b ≡ 18 = simp length-take (omega arith) in
-    let ends : length (b ++ f) ≡ 32 = simp length-append (omega arith) in
-    let laid : p₄ ≡ b ++ f ++ old ++ r ++ t =
-    e₄ ∙ over-zeros p₃ (b ++ f) old t 32 n 256 cleared ends hn few ∙ sym (append-assoc (b ++ f ++ old) r t) in
-    let full : length (b ++ f ++ old ++ r) ≡ 288 = simp (length-append, length-replicate) (omega arith) in
+    let cleared : p₃ ≡ b ++ f ++ o ++ t = rw (e₃, front) in
+    let full : length (b ++ f ++ o) ≡ 288 = simp (length-append, length-replicate) (omega arith) in
     let left : length t ≡ length x = simp length-drop (omega (arith, ap length hi)) in
-    let whole : p₅ ≡ b ++ f ++ old ++ r ++ i = rw hi at (e₅ ∙ over-last p₄ (b ++ f ++ old ++ r) t x 288 laid full left) in
-    e₆
-    ∙ between p₅ b m v (f ++ old ++ r ++ i) (whole ∙ five-pieces b f old r i) sized (take-take 2 18 p₁ (omega arith) ∙ marked)
-    ∙ sym (five-pieces (m ++ v) f old r i)
+    let whole : p₄ ≡ b ++ f ++ o ++ i = rw hi at (e₄ ∙ over-last p₃ (b ++ f ++ o) t x 288 cleared full left) in
+    e₅
+    ∙ between p₄ b m v (f ++ o ++ i) (whole ∙ four-pieces b f o i) sized (take-take 2 18 p₁ (omega arith) ∙ marked)
+    ∙ sym (four-pieces (m ++ v) f o i)
+
+-- ---- THE RECORD, in the history
+
+split : (h r₁ z i t : List ℕ) → h ++ (r₁ ++ z ++ i) ++ t ≡ h ++ r₁ ++ (z ++ (i ++ t))
+split h r₁ z i t = simp append-assoc
+
+joined : (h r₁ o z i t : List ℕ) → h ++ r₁ ++ o ++ (z ++ (i ++ t)) ≡ h ++ (r₁ ++ o ++ z ++ i) ++ t
+joined h r₁ o z i t = simp append-assoc
+
+-- without old bytes it is whole already
+pub nothing-old : (m : Machine) (a : Action) → blank m Nothing a ≡ recordWith m Nothing [] a
+unfolding blank recordWith
+nothing-old m a = ap (λ (l : List ℕ). l ++ replicate 256 0 ++ inputs a) (sym (append-nil (mark Nothing ++ m .v ++ fields m Nothing)))
+
+-- and else it is whole with them
+pub kept : (h h₁ h₂ memory rows : List ℕ) (n : ℕ) (m : Machine) (c : Change) (a : Action) → length (m .v) ≡ 16 → 292 * n + 292 ≤ length h
+    → Reaches c memory rows → h₁ ≡ over h (292 * n) (blank m c a) 292
+    → h₂ ≡ over h₁ (292 * n + 32) (old c memory (bytesOf rows)) (count c)
+    → h₂ ≡ over h (292 * n) (recordWith m c (old c memory (bytesOf rows)) a) 292
+unfolding blank recordWith
+kept h h₁ h₂ memory rows n m c a sixteen room r e₁ e₂ =
+    let at = 292 * n in
+    let o = old c memory (bytesOf rows) in
+    let r₁ : List ℕ = mark c ++ m .v ++ fields m c in
+    let (counted, few) = old-counted memory rows c r in
+    let sized : length (take at h ++ r₁) ≡ at + 32 = simp (length-append, length-take, mark-two c) (omega arith) in
+    e₂
+    ∙ over-zeros h₁ (take at h ++ r₁) o (inputs a ++ drop (at + 292) h) (at + 32) (count c) 256
+    (e₁ ∙ split (take at h) r₁ (replicate 256 0) (inputs a) (drop (at + 292) h)) sized counted few
+    ∙ joined (take at h) r₁ o (replicate (256 - count c) 0) (inputs a) (drop (at + 292) h)

@@ -1,3 +1,4 @@
 -- What is proved here besides the functions.
 pub mod Cleared
+pub mod Reached
 pub mod Laid

@@ -4,11 +4,12 @@ ghost use mathlib.Core.List.{List};
 ghost use Prim.Native.Nat.{ℕ, _+_, _-_, _*_, _≤_};
 ghost use lib.Dec.{eqb};
 ghost use lib.ListN.{length, getD, replicate};
-ghost use Rattle.keeping.specs.Writable.{Writable};
+ghost use Rattle.keeping.specs.Writable.{blank, Reaches};
 ghost use Rattle.rules.specs.Number.{pick};
 ghost use Rattle.rules.specs.Memory.{over};
 ghost use Rattle.rules.specs.State.{stackSize};
-ghost use Rattle.rules.specs.Record.{placeSize, atV, atOld, mark, start, count, fields, inputs, recordWith};
+ghost use Rattle.rules.specs.Record.{placeSize, atV, atOld, mark, start, count, old, fields, inputs};
+ghost use Rattle.rules.specs.Rows.{bytesOf};
 ghost use Rattle.parts.specs.Whole.{whole};
 use parts::Core;
 use rules::Action;
@@ -155,8 +156,8 @@ fn clear_old(place: &mut [u8], skew: usize)
     zeros(place, AT_OLD + 240, 16);
 }
 
-// Fills a place. Zeros are laid first and the old bytes over them, so that the clearing has a fixed length. The variables come last: to
-// read sixteen bytes at once must wait for a byte among them that was just written.
+// Fills a place with a record that has zeros where the old bytes will stand, so that the clearing has a fixed length. The variables come
+// last: to read sixteen bytes at once must wait for a byte among them that was just written.
 fn write(
     place: &mut [u8],
     skew: usize,
@@ -164,12 +165,10 @@ fn write(
     v: &[u8; 16],
     stack: &[u16; Machine::STACK],
     change: Change,
-    old: &[u8],
     action: Action,
 )
-    requires { ⌜ Writable (whole c (now v) (now stack)) change (now old) ⌝ }
-    requires { ⌜ (length (now place) ≡ placeSize) × (skew ≤ 16) ⌝ }
-    ensures { λ _. ⌜ now (place .exit) ≡ recordWith (whole c (now (v .entry)) (now (stack .entry))) change (now (old .entry)) action ⌝ }
+    requires { ⌜ (length (now place) ≡ placeSize) × (skew ≤ 16) × (c .depth ≤ stackSize) ⌝ }
+    ensures { λ _. ⌜ now (place .exit) ≡ blank (whole c (now (v .entry)) (now (stack .entry))) change action ⌝ }
 {
     let mark = mark_of(change);
     let fields = fields_of(c, stack, change);
@@ -177,12 +176,11 @@ fn write(
     memory::lay(place, AT_MARK, &mark);
     memory::lay(place, AT_I, &fields);
     clear_old(place, skew);
-    memory::lay(place, AT_OLD, old);
     memory::lay(place, AT_KEYS, &inputs);
     lay_variables(place, *v);
 }
 
-// Writes the record of a machine, a change and an action into the place `next` of a history. `old` are the bytes that are about to change.
+// Writes the record of a machine, a change and an action into the place `next` of a history, all but the old bytes.
 pub fn keep(
     history: &mut [u8],
     next: usize,
@@ -190,13 +188,11 @@ pub fn keep(
     v: &[u8; 16],
     stack: &[u16; Machine::STACK],
     change: Change,
-    old: &[u8],
     action: Action,
 )
-    requires { ⌜ Writable (whole c (now v) (now stack)) change (now old) ⌝ }
-    requires { ⌜ placeSize * next + placeSize ≤ length (now history) ⌝ }
+    requires { ⌜ (placeSize * next + placeSize ≤ length (now history)) × (c .depth ≤ stackSize) ⌝ }
     ensures { λ _. ⌜ now (history .exit) ≡ over (now (history .entry)) (placeSize * next)
-        (recordWith (whole c (now (v .entry)) (now (stack .entry))) change (now (old .entry)) action) placeSize ⌝ }
+        (blank (whole c (now (v .entry)) (now (stack .entry))) change action) placeSize ⌝ }
 {
     let at = PLACE * next;
     // From the old bytes of this place on, so many bytes lead to the next multiple of sixteen in the history.
@@ -208,7 +204,26 @@ pub fn keep(
         v,
         stack,
         change,
-        old,
         action,
     );
+}
+
+// Lays the bytes that are about to change into that record: a part of memory, or whole rows, straight from where they stand.
+pub fn keep_old(history: &mut [u8], next: usize, change: Change, memory: &[u8], rows: &[u64])
+    requires { ⌜ (placeSize * next + placeSize ≤ length (now history)) × Reaches change (now memory) (now rows) ⌝ }
+    ensures { λ _. ⌜ now (history .exit) ≡ over (now (history .entry)) (placeSize * next + atOld)
+        (old change (now (memory .entry)) (bytesOf (now (rows .entry)))) (count change) ⌝ }
+{
+    let at = PLACE * next + AT_OLD;
+    match change {
+        Change::Nothing => {}
+        Change::InMemory(start, count) => {
+            let from = start as usize;
+            let to = from + count as usize;
+            memory::lay(history, at, &memory[from..to]);
+        }
+        Change::InPicture(start, count) => {
+            picture::lay_rows(history, at, rows, start as usize / 8, count as usize / 8);
+        }
+    }
 }

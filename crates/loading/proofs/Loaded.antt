@@ -79,9 +79,9 @@ module _ (edition : Edition) (program memory picture history : List ℕ) where
   load-refused r e =
       given-refused (loadRefusal program memory picture history) (loaded edition program history) (freshWorld edition memory picture history) r e
 
-  -- the picture and the history are cleared from their first byte on
+  -- every spot is dark, and the history is cleared from its first byte on
   pub load-gives : loadRefusal program memory picture history ≡ 0 → (mem pic his : List ℕ) → mem ≡ loadedMemory program
-      → pic ≡ take 0 picture ++ replicate (length picture - 0) 0 → his ≡ take 0 history ++ replicate (length history - 0) 0
+      → pic ≡ replicate 256 0 → his ≡ take 0 history ++ replicate (length history - 0) 0
       → Gives (load edition program memory picture history) Done (fresh edition) freshTrail mem pic his
   unfolding load
   load-gives e mem pic his em ep eh =
@@ -91,6 +91,6 @@ module _ (edition : Edition) (program memory picture history : List ℕ) where
         machine = refl;
         trail = refl;
         memory = em;
-        picture = rw (sub-zero, (load-room program memory picture history e) .picture) at ep;
+        picture = ep;
         history = rw sub-zero at eh;
       })

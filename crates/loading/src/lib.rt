@@ -6,6 +6,7 @@ ghost use Rattle.rules.specs.Refusal.{number};
 ghost use Rattle.rules.specs.Load.{loadRefusal, loadedMemory};
 ghost use Rattle.rules.specs.Load as rule;
 ghost use Rattle.rules.specs.Promise.{Gives};
+ghost use Rattle.rules.specs.Rows.{bytesOf};
 use digits::lay_digits;
 use parts::Answer;
 use rules::Edition;
@@ -15,10 +16,10 @@ use rules::Refusal;
 use rules::Trail;
 
 // 9, then 8.
-fn judged(program: &[u8], memory: &[u8], picture: &[u8], history: &[u8]) -> Outcome
-    ensures { λ r. ⌜ number r ≡ loadRefusal (now (program .entry)) (now (memory .entry)) (now (picture .entry)) (now (history .entry)) ⌝ }
+fn judged(program: &[u8], memory: &[u8], rows: &[u64], history: &[u8]) -> Outcome
+    ensures { λ r. ⌜ number r ≡ loadRefusal (now (program .entry)) (now (memory .entry)) (bytesOf (now (rows .entry))) (now (history .entry)) ⌝ }
 {
-    if !judge::sizes_fit(memory, picture, history) {
+    if !judge::sizes_fit(memory, rows, history) {
         return Outcome::Refused(Refusal::BufferLength);
     }
     let size = program.len();
@@ -43,12 +44,12 @@ pub fn load(
     edition: Edition,
     program: &[u8],
     memory: &mut [u8],
-    picture: &mut [u8],
+    rows: &mut [u64],
     history: &mut [u8],
 ) -> Answer
     ensures { λ r. ⌜ Gives
-        (rule.load edition (now (program .entry)) (now (memory .entry)) (now (picture .entry)) (now (history .entry))) (r .outcome)
-        (r .machine) (r .trail) (now (memory .exit)) (now (picture .exit)) (now (history .exit)) ⌝ }
+        (rule.load edition (now (program .entry)) (now (memory .entry)) (bytesOf (now (rows .entry))) (now (history .entry))) (r .outcome)
+        (r .machine) (r .trail) (now (memory .exit)) (bytesOf (now (rows .exit))) (now (history .exit)) ⌝ }
 {
     let machine = Machine::fresh(edition);
     let trail = Trail {
@@ -56,7 +57,7 @@ pub fn load(
         kept: 0,
         ahead: 0,
     };
-    let outcome = judged(program, memory, picture, history);
+    let outcome = judged(program, memory, rows, history);
     let Outcome::Done = outcome else {
         return Answer {
             outcome,
@@ -65,7 +66,7 @@ pub fn load(
         };
     };
     lay_out(program, memory);
-    memory::clear(picture, 0);
+    picture::clear(rows);
     memory::clear(history, 0);
     Answer {
         outcome: Outcome::Done,

@@ -1,10 +1,11 @@
-// Bytes laid into a buffer and cleared, numbers of two bytes, and the instructions that write and read memory: FX33, FX55 and FX65.
+// Bytes laid into a buffer and cleared, numbers of eight bytes and of two, and the instructions that write and read memory: FX33, FX55 and FX65.
 ghost use mathlib.Core.Path.{_≡_};
 ghost use mathlib.Core.List.{_++_};
 ghost use Prim.Native.Nat.{_+_, _-_, _/_, _%_, _≤_, _<_};
 ghost use lib.ListN.{length, take, drop, replicate};
 ghost use Rattle.rules.specs.Memory.{over, digitsOf};
 ghost use Rattle.rules.specs.Record.{wordAt};
+ghost use Rattle.rules.specs.Rows.{byteIn, eightOf};
 
 // Lays the bytes of `new` into a buffer, from `at` on.
 pub fn lay(buffer: &mut [u8], at: usize, new: &[u8])
@@ -29,6 +30,40 @@ pub fn clear(buffer: &mut [u8], at: usize)
         buffer[at + i] = 0;
         i += 1;
     }
+}
+
+// ---- a number of eight bytes, the highest first
+
+// Byte j of it.
+pub fn byte_in(n: u64, j: usize) -> u8
+    requires { ⌜ j < 8 ⌝ }
+    ensures { λ r. ⌜ r ≡ byteIn j n ⌝ }
+{
+    ((n >> (56 - 8 * j)) % 256) as u8
+}
+
+fn eight_of(n: u64) -> [u8; 8]
+    ensures { λ r. ⌜ r ≡ eightOf n ⌝ }
+{
+    [
+        byte_in(n, 0),
+        byte_in(n, 1),
+        byte_in(n, 2),
+        byte_in(n, 3),
+        byte_in(n, 4),
+        byte_in(n, 5),
+        byte_in(n, 6),
+        byte_in(n, 7),
+    ]
+}
+
+// Lays all eight into a buffer, from `at` on. They are laid from an array, which the compiler takes for one number: so they are one store.
+pub fn lay_eight(buffer: &mut [u8], at: usize, n: u64)
+    requires { ⌜ at + 8 ≤ length (now buffer) ⌝ }
+    ensures { λ _. ⌜ now (buffer .exit) ≡ over (now (buffer .entry)) at (eightOf n) 8 ⌝ }
+{
+    let bytes = eight_of(n);
+    lay(buffer, at, &bytes);
 }
 
 // ---- a number of two bytes, the high one first

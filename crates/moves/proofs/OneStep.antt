@@ -6,6 +6,7 @@ use native.Mathlib.Omega.{arith}
 use lib.ListN.{length, getD}
 use lib.Dec.{leb}
 use borrow.Author.Tests.{le-leb, lt-leb, eq-eqb, ne-eqb}
+use Rattle.rules.specs.declared.Action.{Action}
 use Rattle.rules.specs.declared.Action.the-variants.{Step}
 use Rattle.rules.specs.declared.Machine.{Machine}
 use Rattle.rules.specs.declared.Trail.{Trail}
@@ -18,7 +19,8 @@ use Rattle.rules.specs.declared.Outcome.the-variants.{Done, Refused}
 use Rattle.rules.specs.Number.{unless}
 use Rattle.rules.specs.Refusal.{number}
 use Rattle.rules.specs.Memory.{over}
-use Rattle.rules.specs.Record.{old, count, recordOf}
+use Rattle.rules.specs.Record.{old, count, recordWith, recordOf}
+use Rattle.rules.specs.Rows.{bytesOf}
 use Rattle.rules.specs.Step.{refusalOf, changeOf, after}
 use Rattle.rules.specs.World.{World, boardOf, places}
 use Rattle.rules.specs.Call.{opAt, step, stepped, stepRefusal, grown}
@@ -34,9 +36,10 @@ use Rattle.rules.proofs.Given.{Back, given-refused, answered-done, refused-some
 use Rattle.act.specs.Accepted.{Accepted}
 use Rattle.act.specs.Became.{Became}
 use Rattle.act.specs.Drawn.{patternBytes}
-use Rattle.keeping.specs.Writable.{Writable}
+use Rattle.keeping.specs.Writable.{blank, Reaches}
+use Rattle.keeping.proofs.Laid.{kept}
 use Rattle.moves.specs.Inner.{Tickable}
-use Rattle.moves.proofs.Keep.{writable}
+use Rattle.moves.proofs.Keep.{reaches}
 
 fifteen : (o : Op) → OpFits o → patternBytes o ≤ 15
 fifteen (Plain s) f = omega arith
@@ -121,20 +124,28 @@ module _ (w : World) (h : Ready w) where
     passes : stepRefusal w ≡ 0
     passes = near-left near ∙ rw e at allowed
 
-    pub kept-fits : Fits (changeOf op m)
+    kept-fits : Fits (changeOf op m)
     kept-fits = rw e ((stepped-follows w h 0 0 passes) .undoable .fits)
 
-    pub step-writable : Writable m (changeOf op m) (old (changeOf op m) (w .memory) (w .picture))
-    step-writable = writable (w .memory) (w .picture) (h .good .memory .size) (h .good .picture .size) m (changeOf op m) (h .good .machine .calls .most) kept-fits
+    pub step-reaches : (rows : List ℕ) → length rows ≡ 32 → Reaches (changeOf op m) (w .memory) rows
+    step-reaches rows sized = reaches (w .memory) rows (h .good .memory .size) sized op m kept-fits
 
-    pub accepted : Accepted op m (w .memory) (w .picture)
-    accepted =
+    -- the record, kept in its two parts
+    pub step-kept : (rows h₁ h₂ : List ℕ) (a : Action) → length rows ≡ 32
+        → h₁ ≡ over (w .history) (292 * w .trail .next) (blank m (changeOf op m) a) 292
+        → h₂ ≡ over h₁ (292 * w .trail .next + 32) (old (changeOf op m) (w .memory) (bytesOf rows)) (count (changeOf op m))
+        → h₂ ≡ over (w .history) (292 * w .trail .next) (recordWith m (changeOf op m) (old (changeOf op m) (w .memory) (bytesOf rows)) a) 292
+    step-kept rows h₁ h₂ a sized =
+        kept (w .history) h₁ h₂ (w .memory) rows (w .trail .next) m (changeOf op m) a (h .good .machine .v .size) place-inside (step-reaches rows sized)
+
+    pub accepted : (rows : List ℕ) → length rows ≡ 32 → Accepted op m (w .memory) rows
+    accepted rows sized =
         record {
           near = near;
           shallow = h .good .machine .calls .most;
           allowed = allowed;
           memory = h .good .memory .size;
-          picture = h .good .picture .size;
+          rows = sized;
         }
 
     pub step-dark : stepDark w ≡ darkOf op m (w .memory) (w .picture)

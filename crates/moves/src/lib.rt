@@ -2,17 +2,14 @@
 ghost use mathlib.Core.Path.{_≡_};
 ghost use mathlib.Core.List.{List};
 ghost use Prim.Native.Nat.{ℕ, _≤_};
-ghost use lib.ListN.{length};
-ghost use Rattle.rules.specs.State.{memorySize, pictureSize};
-ghost use Rattle.rules.specs.Record as kept;
 ghost use Rattle.rules.specs.World.{world};
 ghost use Rattle.rules.specs.Call as rule;
 ghost use Rattle.rules.specs.Run.{unrefused};
 ghost use Rattle.rules.specs.Dark.{stepDark};
 ghost use Rattle.rules.specs.Copied.{stepCopied};
 ghost use Rattle.rules.specs.Promise.{Gives};
+ghost use Rattle.rules.specs.Rows.{bytesOf};
 ghost use Rattle.rules.proofs.Ready.{Ready};
-ghost use Rattle.rules.proofs.Undo.{Fits};
 ghost use Rattle.parts.specs.Whole.{whole};
 ghost use Rattle.moves.specs.Inner.{Tickable};
 use parts::Core;
@@ -41,26 +38,6 @@ pub struct Stepped {
 
 // ---- the moves
 
-// The bytes that are about to change.
-fn old_of<'a>(change: Change, memory: &'a [u8], picture: &'a [u8]) -> &'a [u8]
-    requires { ⌜ Fits change × (length (now memory) ≡ memorySize) × (length (now picture) ≡ pictureSize) ⌝ }
-    ensures { λ r. ⌜ now r ≡ kept.old change (now (memory .entry)) (now (picture .entry)) ⌝ }
-{
-    match change {
-        Change::Nothing => &memory[0..0],
-        Change::InMemory(start, count) => {
-            let at = start as usize;
-            let end = at + count as usize;
-            &memory[at..end]
-        }
-        Change::InPicture(start, count) => {
-            let at = start as usize;
-            let end = at + count as usize;
-            &picture[at..end]
-        }
-    }
-}
-
 // Judges the step, keeps its record, and acts.
 pub fn step(
     c: Core,
@@ -68,21 +45,21 @@ pub fn step(
     stack: &mut [u16; Machine::STACK],
     trail: Trail,
     memory: &mut [u8],
-    picture: &mut [u8],
+    rows: &mut [u64],
     history: &mut [u8],
     keys: u16,
     random: u8,
 ) -> Stepped
-    requires { ⌜ Ready (world (whole c (now v) (now stack)) trail (now memory) (now picture) (now history)) ⌝ }
+    requires { ⌜ Ready (world (whole c (now v) (now stack)) trail (now memory) (bytesOf (now rows)) (now history)) ⌝ }
     ensures { λ r. ⌜ Gives
         (rule.step keys random
-        (world (whole c (now (v .entry)) (now (stack .entry))) trail (now (memory .entry)) (now (picture .entry))
+        (world (whole c (now (v .entry)) (now (stack .entry))) trail (now (memory .entry)) (bytesOf (now (rows .entry)))
         (now (history .entry)))) (r .outcome) (whole (r .core) (now (v .exit)) (now (stack .exit))) (r .trail)
-        (now (memory .exit)) (now (picture .exit)) (now (history .exit)) ⌝ }
+        (now (memory .exit)) (bytesOf (now (rows .exit))) (now (history .exit)) ⌝ }
     ensures { λ r. ⌜ (r .dark ≡ stepDark
-        (world (whole c (now (v .entry)) (now (stack .entry))) trail (now (memory .entry)) (now (picture .entry))
+        (world (whole c (now (v .entry)) (now (stack .entry))) trail (now (memory .entry)) (bytesOf (now (rows .entry)))
         (now (history .entry)))) × (r .dark ≤ 120) × (r .copied ≡ stepCopied
-        (world (whole c (now (v .entry)) (now (stack .entry))) trail (now (memory .entry)) (now (picture .entry))
+        (world (whole c (now (v .entry)) (now (stack .entry))) trail (now (memory .entry)) (bytesOf (now (rows .entry)))
         (now (history .entry)))) × (r .copied ≤ 256) ⌝ }
 {
     let at = c.pc as usize;
@@ -117,10 +94,10 @@ pub fn step(
         v,
         stack,
         change,
-        old_of(change, memory, picture),
         Action::Step(keys, random),
     );
-    let acted = act::act(op, c, v, stack, memory, picture, keys, random);
+    keeping::keep_old(history, next, change, memory, rows);
+    let acted = act::act(op, c, v, stack, memory, rows, keys, random);
     let core = acted.core;
     Stepped {
         outcome: Outcome::Done,
@@ -149,7 +126,7 @@ pub fn tick(
 {
     let places = judge::places(history);
     let at = trail.next;
-    keeping::keep(history, at, c, v, stack, Change::Nothing, b"", Action::Tick);
+    keeping::keep(history, at, c, v, stack, Change::Nothing, Action::Tick);
     Moved {
         outcome: Outcome::Done,
         core: clock::tick(c),

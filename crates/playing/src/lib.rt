@@ -6,6 +6,7 @@ ghost use Rattle.rules.specs.Run.{unrefused, listsFit, allMoves, moveOf, movesO
 ghost use Rattle.rules.specs.Run as rule;
 ghost use Rattle.rules.specs.Past.{PlayTells};
 ghost use Rattle.rules.specs.Promise.{Gives};
+ghost use Rattle.rules.specs.Rows.{bytesOf};
 use parts::Answer;
 use rules::Action;
 use rules::Machine;
@@ -32,14 +33,14 @@ fn make(
     machine: Machine,
     trail: Trail,
     memory: &mut [u8],
-    picture: &mut [u8],
+    rows: &mut [u64],
     history: &mut [u8],
     keys: u16,
     random: u8,
 ) -> Answer
     ensures { λ r. ⌜ Gives
-        (made (moveOf step keys random) (world machine trail (now (memory .entry)) (now (picture .entry)) (now (history .entry))))
-        (r .outcome) (r .machine) (r .trail) (now (memory .exit)) (now (picture .exit)) (now (history .exit)) ⌝ }
+        (made (moveOf step keys random) (world machine trail (now (memory .entry)) (bytesOf (now (rows .entry))) (now (history .entry))))
+        (r .outcome) (r .machine) (r .trail) (now (memory .exit)) (bytesOf (now (rows .exit))) (now (history .exit)) ⌝ }
 {
     match step {
         0 => stepping::take(
@@ -47,12 +48,12 @@ fn make(
             machine,
             trail,
             memory,
-            picture,
+            rows,
             history,
         ),
-        1 => stepping::take(Action::Tick, machine, trail, memory, picture, history),
-        2 => restoring::back(machine, trail, memory, picture, history),
-        _ => repeating::forward(machine, trail, memory, picture, history),
+        1 => stepping::take(Action::Tick, machine, trail, memory, rows, history),
+        2 => restoring::back(machine, trail, memory, rows, history),
+        _ => repeating::forward(machine, trail, memory, rows, history),
     }
 }
 
@@ -61,7 +62,7 @@ fn make_all(
     machine: Machine,
     trail: Trail,
     memory: &mut [u8],
-    picture: &mut [u8],
+    rows: &mut [u64],
     history: &mut [u8],
     moves: &[u8],
     keys: &[u16],
@@ -70,8 +71,8 @@ fn make_all(
     requires { ⌜ listsFit (now moves) (now keys) (now randoms) ≡ true ⌝ }
     ensures { λ r. ⌜ Gives
         (playFrom (movesOf (now (moves .entry)) (now (keys .entry)) (now (randoms .entry)))
-        (unrefused (world machine trail (now (memory .entry)) (now (picture .entry)) (now (history .entry))))) (r .outcome)
-        (r .machine) (r .trail) (now (memory .exit)) (now (picture .exit)) (now (history .exit)) ⌝ }
+        (unrefused (world machine trail (now (memory .entry)) (bytesOf (now (rows .entry))) (now (history .entry))))) (r .outcome)
+        (r .machine) (r .trail) (now (memory .exit)) (bytesOf (now (rows .exit))) (now (history .exit)) ⌝ }
 {
     let mut last = Answer {
         outcome: Outcome::Done,
@@ -82,16 +83,7 @@ fn make_all(
     while i < moves.len() {
         let m = last.machine;
         let t = last.trail;
-        last = make(
-            moves[i],
-            m,
-            t,
-            memory,
-            picture,
-            history,
-            keys[i],
-            randoms[i],
-        );
+        last = make(moves[i], m, t, memory, rows, history, keys[i], randoms[i]);
         i += 1;
     }
     last
@@ -103,7 +95,7 @@ pub fn play(
     machine: Machine,
     trail: Trail,
     memory: &mut [u8],
-    picture: &mut [u8],
+    rows: &mut [u64],
     history: &mut [u8],
     moves: &[u8],
     keys: &[u16],
@@ -111,14 +103,14 @@ pub fn play(
 ) -> Answer
     ensures { λ r. ⌜ Gives
         (rule.play (now (moves .entry)) (now (keys .entry)) (now (randoms .entry))
-        (world machine trail (now (memory .entry)) (now (picture .entry)) (now (history .entry)))) (r .outcome) (r .machine)
-        (r .trail) (now (memory .exit)) (now (picture .exit)) (now (history .exit)) ⌝ }
+        (world machine trail (now (memory .entry)) (bytesOf (now (rows .entry))) (now (history .entry)))) (r .outcome) (r .machine)
+        (r .trail) (now (memory .exit)) (bytesOf (now (rows .exit))) (now (history .exit)) ⌝ }
     ensures { λ r. ⌜ PlayTells (now (moves .entry)) (now (keys .entry)) (now (randoms .entry))
-        (world machine trail (now (memory .entry)) (now (picture .entry)) (now (history .entry)))
-        (world (r .machine) (r .trail) (now (memory .exit)) (now (picture .exit)) (now (history .exit))) ⌝ }
+        (world machine trail (now (memory .entry)) (bytesOf (now (rows .entry))) (now (history .entry)))
+        (world (r .machine) (r .trail) (now (memory .exit)) (bytesOf (now (rows .exit))) (now (history .exit))) ⌝ }
 {
     let lists = judge::lists_fit(moves.len(), keys.len(), randoms.len()) & all_moves(moves);
-    let outcome = judge::admitted(machine, trail, memory, picture, history, lists);
+    let outcome = judge::admitted(machine, trail, memory, rows, history, lists);
     let Outcome::Done = outcome else {
         return Answer {
             outcome,
@@ -126,14 +118,5 @@ pub fn play(
             trail,
         };
     };
-    make_all(
-        machine,
-        trail,
-        memory,
-        picture,
-        history,
-        moves,
-        keys,
-        randoms,
-    )
+    make_all(machine, trail, memory, rows, history, moves, keys, randoms)
 }

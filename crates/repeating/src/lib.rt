@@ -3,6 +3,7 @@ ghost use mathlib.Core.Path.{_≡_};
 ghost use Rattle.rules.specs.World.{world};
 ghost use Rattle.rules.specs.Call as rule;
 ghost use Rattle.rules.specs.Promise.{Gives};
+ghost use Rattle.rules.specs.Rows.{bytesOf};
 ghost use Rattle.rules.proofs.Ready.{Ready};
 ghost use Rattle.repeating.specs.Left.{left};
 use parts::Answer;
@@ -30,13 +31,13 @@ fn redo(
     machine: Machine,
     trail: Trail,
     memory: &mut [u8],
-    picture: &mut [u8],
+    rows: &mut [u64],
     history: &mut [u8],
 ) -> Answer
-    requires { ⌜ Ready (world machine trail (now memory) (now picture) (now history)) ⌝ }
+    requires { ⌜ Ready (world machine trail (now memory) (bytesOf (now rows)) (now history)) ⌝ }
     ensures { λ r. ⌜ Gives
-        (rule.forward (world machine trail (now (memory .entry)) (now (picture .entry)) (now (history .entry)))) (r .outcome)
-        (r .machine) (r .trail) (now (memory .exit)) (now (picture .exit)) (now (history .exit)) ⌝ }
+        (rule.forward (world machine trail (now (memory .entry)) (bytesOf (now (rows .entry))) (now (history .entry)))) (r .outcome)
+        (r .machine) (r .trail) (now (memory .exit)) (bytesOf (now (rows .exit))) (now (history .exit)) ⌝ }
 {
     if trail.ahead == 0 {
         return Answer {
@@ -56,7 +57,7 @@ fn redo(
     }
     let action = history::action_at(&history[at..end]);
     let fewer = trail.ahead - 1;
-    let made = stepping::take(action, machine, trail, memory, picture, history);
+    let made = stepping::take(action, machine, trail, memory, rows, history);
     let outcome = made.outcome;
     let next_machine = made.machine;
     let next_trail = made.trail;
@@ -72,14 +73,14 @@ pub fn forward(
     machine: Machine,
     trail: Trail,
     memory: &mut [u8],
-    picture: &mut [u8],
+    rows: &mut [u64],
     history: &mut [u8],
 ) -> Answer
     ensures { λ r. ⌜ Gives
-        (rule.forward (world machine trail (now (memory .entry)) (now (picture .entry)) (now (history .entry)))) (r .outcome)
-        (r .machine) (r .trail) (now (memory .exit)) (now (picture .exit)) (now (history .exit)) ⌝ }
+        (rule.forward (world machine trail (now (memory .entry)) (bytesOf (now (rows .entry))) (now (history .entry)))) (r .outcome)
+        (r .machine) (r .trail) (now (memory .exit)) (bytesOf (now (rows .exit))) (now (history .exit)) ⌝ }
 {
-    let outcome = judge::admitted(machine, trail, memory, picture, history, true);
+    let outcome = judge::admitted(machine, trail, memory, rows, history, true);
     let Outcome::Done = outcome else {
         return Answer {
             outcome,
@@ -87,5 +88,5 @@ pub fn forward(
             trail,
         };
     };
-    redo(machine, trail, memory, picture, history)
+    redo(machine, trail, memory, rows, history)
 }

@@ -5,6 +5,7 @@ ghost use Rattle.rules.specs.World.{world, places};
 ghost use Rattle.rules.specs.Record.{placeSize, memoryAt, pictureAt};
 ghost use Rattle.rules.specs.Call as rule;
 ghost use Rattle.rules.specs.Promise.{Gives};
+ghost use Rattle.rules.specs.Rows.{bytesOf};
 ghost use Rattle.rules.proofs.Undo.{Fits};
 ghost use Rattle.rules.proofs.Ready.{Ready};
 use parts::Answer;
@@ -15,10 +16,10 @@ use rules::Refusal;
 use rules::Trail;
 
 // Puts the old bytes of a record back where they stood.
-fn put_back(change: Change, place: &[u8], memory: &mut [u8], picture: &mut [u8])
-    requires { ⌜ (length (now place) ≡ placeSize) × (length (now memory) ≡ 4096) × (length (now picture) ≡ 256) × Fits change ⌝ }
+fn put_back(change: Change, place: &[u8], memory: &mut [u8], rows: &mut [u64])
+    requires { ⌜ (length (now place) ≡ placeSize) × (length (now memory) ≡ 4096) × (length (now rows) ≡ 32) × Fits change ⌝ }
     ensures { λ _. ⌜ now (memory .exit) ≡ memoryAt change (now (place .entry)) (now (memory .entry)) ⌝ }
-    ensures { λ _. ⌜ now (picture .exit) ≡ pictureAt change (now (place .entry)) (now (picture .entry)) ⌝ }
+    ensures { λ _. ⌜ bytesOf (now (rows .exit)) ≡ pictureAt change (now (place .entry)) (bytesOf (now (rows .entry))) ⌝ }
 {
     match change {
         Change::Nothing => {}
@@ -28,7 +29,7 @@ fn put_back(change: Change, place: &[u8], memory: &mut [u8], picture: &mut [u8])
         }
         Change::InPicture(start, count) => {
             let end = history::AT_OLD + count as usize;
-            memory::lay(picture, start as usize, &place[history::AT_OLD..end]);
+            picture::put_bytes(rows, start as usize, &place[history::AT_OLD..end]);
         }
     }
 }
@@ -38,13 +39,13 @@ fn undo(
     machine: Machine,
     trail: Trail,
     memory: &mut [u8],
-    picture: &mut [u8],
+    rows: &mut [u64],
     history: &[u8],
 ) -> Answer
-    requires { ⌜ Ready (world machine trail (now memory) (now picture) (now history)) ⌝ }
+    requires { ⌜ Ready (world machine trail (now memory) (bytesOf (now rows)) (now history)) ⌝ }
     ensures { λ r. ⌜ Gives
-        (rule.back (world machine trail (now (memory .entry)) (now (picture .entry)) (now (history .entry)))) (r .outcome)
-        (r .machine) (r .trail) (now (memory .exit)) (now (picture .exit)) (now (history .entry)) ⌝ }
+        (rule.back (world machine trail (now (memory .entry)) (bytesOf (now (rows .entry))) (now (history .entry)))) (r .outcome)
+        (r .machine) (r .trail) (now (memory .exit)) (bytesOf (now (rows .exit))) (now (history .entry)) ⌝ }
 {
     if trail.kept == 0 {
         return Answer {
@@ -65,7 +66,7 @@ fn undo(
         };
     }
     let change = old.change;
-    put_back(change, &history[at..end], memory, picture);
+    put_back(change, &history[at..end], memory, rows);
     let before = old.machine;
     Answer {
         outcome: Outcome::Done,
@@ -83,14 +84,14 @@ pub fn back(
     machine: Machine,
     trail: Trail,
     memory: &mut [u8],
-    picture: &mut [u8],
+    rows: &mut [u64],
     history: &[u8],
 ) -> Answer
     ensures { λ r. ⌜ Gives
-        (rule.back (world machine trail (now (memory .entry)) (now (picture .entry)) (now (history .entry)))) (r .outcome)
-        (r .machine) (r .trail) (now (memory .exit)) (now (picture .exit)) (now (history .entry)) ⌝ }
+        (rule.back (world machine trail (now (memory .entry)) (bytesOf (now (rows .entry))) (now (history .entry)))) (r .outcome)
+        (r .machine) (r .trail) (now (memory .exit)) (bytesOf (now (rows .exit))) (now (history .entry)) ⌝ }
 {
-    let outcome = judge::admitted(machine, trail, memory, picture, history, true);
+    let outcome = judge::admitted(machine, trail, memory, rows, history, true);
     let Outcome::Done = outcome else {
         return Answer {
             outcome,
@@ -98,5 +99,5 @@ pub fn back(
             trail,
         };
     };
-    undo(machine, trail, memory, picture, history)
+    undo(machine, trail, memory, rows, history)
 }

@@ -6,9 +6,10 @@ use native.Mathlib.Nat.{add-assoc, add-zero, zero-add}
 use native.Mathlib.Numerals.{add-one}
 use native.Mathlib.Omega.{arith}
 use borrow.Rule.Slice.PartMut.{putMid, post-is}
-use Rattle.rules.specs.Memory.{over}
+use Rattle.rules.specs.Memory.{part, over}
+use Rattle.rules.proofs.Parts.{over-length, over-drop, part-length}
 use lib.ListN.{length, take, drop, getD, set, replicate, getD-replicate, length-set, length-append, length-take, take-append-drop, drop-of-length-le}
-use lib.Seq.{take-suc, take-suc-set, take-length, take-at, drop-set-lt, drop-drop}
+use lib.Seq.{take-suc, take-suc-set, take-length, take-at, take-add, drop-set-lt, drop-drop}
 
 pub record Laid (l₀ : List ℕ) (at : ℕ) (s : List ℕ) (n : ℕ) (l : List ℕ) (i : ℕ) : Type 0 where
   pub sized : length s ≡ n
@@ -34,6 +35,25 @@ module _ (l₀ : List ℕ) (at : ℕ) (s : List ℕ) (n : ℕ) where
         same = length-set l (at + i) x ∙ p .same;
         done = rw (← add-assoc at i 1, add-one (at + i), take-suc-set l (at + i) x, p .done, add-one i, take-suc s i 0, e, append-assoc);
         left = rw (drop-set-lt (at + (i + 1)) l (at + i) x (omega arith), one, ← drop-drop 1 (at + i) l, p .left, drop-drop 1 (at + i) l₀);
+      }
+
+  -- k of them laid at once
+  pub more-part : (l x : List ℕ) (i k : ℕ) → Laid l₀ at s n l i → i + k ≤ n → x ≡ part s i k → Laid l₀ at s n (over l (at + i) x k) (i + k)
+  more-part l x i k p h e =
+      let sized : length x ≡ k = rw e (part-length s i k (omega arith)) in
+      let fits : at + i + k ≤ length l = omega (arith, p .room, p .same) in
+      record {
+        sized = p .sized;
+        room = p .room;
+        inside = h;
+        same = over-length l x (at + i) k fits sized ∙ p .same;
+        done =
+            rw (← add-assoc at i k)
+            (take-at (take (at + i) l ++ x) (drop (at + i + k) l) (at + i + k) (simp (length-append, length-take) (omega arith))
+            ∙ rw (p .done, e, append-assoc, take-add i k s));
+        left =
+            rw (← add-assoc at i k)
+            (over-drop l x (at + i) k fits sized ∙ sym (drop-drop k (at + i) l) ∙ rw (p .left) (drop-drop k (at + i) l₀));
       }
 
   -- after n turns all of them are laid

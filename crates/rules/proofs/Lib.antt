@@ -1,4 +1,4 @@
--- The laws of choices and lists, the laws of the definitions, and the proofs of what Editions, Twice, Copied and Past claim.
+-- The laws of choices and lists, the laws of the definitions, and the proofs of what Rows, Editions, Twice, Copied and Past claim.
 pub mod Choices
 pub mod Good
 pub mod Parts
@@ -7,6 +7,7 @@ pub mod Back
 pub mod Undo
 pub mod Restored
 pub mod Drawn
+pub mod Turning
 pub mod Spots
 pub mod Follow
 pub mod Still

@@ -30,7 +30,7 @@ by-spot Q dark lit (suc (suc s)) h = absurd (omega arith)
 pub by-spots : (Q : ℕ → ℕ → Type 0) → Q 0 0 → Q 0 1 → Q 1 0 → Q 1 1 → (s h : ℕ) → s < 2 → h < 2 → Q s h
 by-spots Q a b c d s h hs hh = by-spot (λ (s : ℕ). Q s h) (by-spot (Q 0) a b h hh) (by-spot (Q 1) c d h hh) s hs
 
-differ-lit : (s h : ℕ) → s < 2 → h < 2 → differ s h < 2
+pub differ-lit : (s h : ℕ) → s < 2 → h < 2 → differ s h < 2
 differ-lit = by-spots (λ (s h : ℕ). differ s h < 2) (omega arith) (omega arith) (omega arith) (omega arith)
 
 -- ---- the spots of a picture drawn

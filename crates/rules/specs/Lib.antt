@@ -1,4 +1,4 @@
--- The rules of document 01 as definitions, and what is claimed of them: Cases, Button, Copied, Editions, Twice, Past and Promise. Read them
+-- The rules of document 01 as definitions, and what is claimed of them: Cases, Button, Rows, Copied, Editions, Twice, Past and Promise. Read them
 -- in this order; the proofs are in proofs/.
 pub mod Number
 pub mod Refusal
@@ -17,6 +17,7 @@ pub mod Dark
 pub mod Cases
 pub mod Button
 pub mod Typed
+pub mod Rows
 pub mod Copied
 pub mod Editions
 pub mod Twice

@@ -33,11 +33,13 @@ pub struct Machine {
 }
 
 impl Machine {
-    // The bytes of memory, the bytes of the picture, the entries of the stack, the address that a program is loaded at, and the fewest
+    // The bytes of memory, the bytes and the rows of the picture, the entries of the stack, the address that a program is loaded at, and the fewest
     // bytes that are too many for one: a reader that takes so many sees that a program is too long.
     pub const MEMORY: usize = 4096;
 
     pub const PICTURE: usize = 256;
+
+    pub const ROWS: usize = 32;
 
     pub const STACK: usize = 12;
 

@@ -10,6 +10,7 @@ ghost use Rattle.rules.specs.Run as runs;
 ghost use Rattle.rules.specs.Dark.{stepDark, runDark};
 ghost use Rattle.rules.specs.Copied.{stepCopied, runCopied};
 ghost use Rattle.rules.specs.Promise.{Gives, GivesRun};
+ghost use Rattle.rules.specs.Rows.{bytesOf};
 ghost use Rattle.rules.proofs.Ready.{Ready};
 ghost use Rattle.parts.specs.Whole.{whole};
 ghost use Rattle.moves.specs.Inner.{Tickable};
@@ -61,31 +62,31 @@ fn entry(
     stack: &mut [u16; Machine::STACK],
     trail: Trail,
     memory: &mut [u8],
-    picture: &mut [u8],
+    rows: &mut [u64],
     history: &mut [u8],
     ticks: u8,
     keys: u16,
     random: u8,
 ) -> moves::Stepped
-    requires { ⌜ Ready (world (whole c (now v) (now stack)) trail (now memory) (now picture) (now history)) ⌝ }
+    requires { ⌜ Ready (world (whole c (now v) (now stack)) trail (now memory) (bytesOf (now rows)) (now history)) ⌝ }
     ensures { λ r. ⌜ Gives
         (rule.step keys random
         (tickedBy ticks
-        (world (whole c (now (v .entry)) (now (stack .entry))) trail (now (memory .entry)) (now (picture .entry))
+        (world (whole c (now (v .entry)) (now (stack .entry))) trail (now (memory .entry)) (bytesOf (now (rows .entry)))
         (now (history .entry))))) (r .outcome) (whole (r .core) (now (v .exit)) (now (stack .exit))) (r .trail)
-        (now (memory .exit)) (now (picture .exit)) (now (history .exit)) ⌝ }
+        (now (memory .exit)) (bytesOf (now (rows .exit))) (now (history .exit)) ⌝ }
     ensures { λ r. ⌜ (r .dark ≡ stepDark
         (tickedBy ticks
-        (world (whole c (now (v .entry)) (now (stack .entry))) trail (now (memory .entry)) (now (picture .entry))
+        (world (whole c (now (v .entry)) (now (stack .entry))) trail (now (memory .entry)) (bytesOf (now (rows .entry)))
         (now (history .entry))))) × (r .dark ≤ 120) × (r .copied ≡ stepCopied
         (tickedBy ticks
-        (world (whole c (now (v .entry)) (now (stack .entry))) trail (now (memory .entry)) (now (picture .entry))
+        (world (whole c (now (v .entry)) (now (stack .entry))) trail (now (memory .entry)) (bytesOf (now (rows .entry)))
         (now (history .entry))))) × (r .copied ≤ 256) ⌝ }
 {
     let ticked = ticks_of(c, v, stack, trail, history, ticks);
     let core = ticked.core;
     let t = ticked.trail;
-    moves::step(core, v, stack, t, memory, picture, history, keys, random)
+    moves::step(core, v, stack, t, memory, rows, history, keys, random)
 }
 
 // What a run answers where it ends.
@@ -116,22 +117,22 @@ fn run_ready(
     machine: Machine,
     trail: Trail,
     memory: &mut [u8],
-    picture: &mut [u8],
+    rows: &mut [u64],
     history: &mut [u8],
     ticks: &[u8],
     keys: &[u16],
     randoms: &[u8],
 ) -> Ran
-    requires { ⌜ Ready (world machine trail (now memory) (now picture) (now history)) ⌝ }
+    requires { ⌜ Ready (world machine trail (now memory) (bytesOf (now rows)) (now history)) ⌝ }
     requires { ⌜ listsFit (now ticks) (now keys) (now randoms) ≡ true ⌝ }
     ensures { λ r. ⌜ GivesRun
         (runFrom 0 (now (ticks .entry)) (now (keys .entry)) (now (randoms .entry))
-        (world machine trail (now (memory .entry)) (now (picture .entry)) (now (history .entry)))) (r .accepted) (r .outcome)
-        (r .machine) (r .trail) (now (memory .exit)) (now (picture .exit)) (now (history .exit)) ⌝ }
+        (world machine trail (now (memory .entry)) (bytesOf (now (rows .entry))) (now (history .entry)))) (r .accepted) (r .outcome)
+        (r .machine) (r .trail) (now (memory .exit)) (bytesOf (now (rows .exit))) (now (history .exit)) ⌝ }
     ensures { λ r. ⌜ (r .dark ≡ totalFrom stepDark (now (ticks .entry)) (now (keys .entry)) (now (randoms .entry))
-        (world machine trail (now (memory .entry)) (now (picture .entry)) (now (history .entry))))
+        (world machine trail (now (memory .entry)) (bytesOf (now (rows .entry))) (now (history .entry))))
         × (r .dark ≤ 120 * r .accepted) × (r .copied ≡ totalFrom stepCopied (now (ticks .entry)) (now (keys .entry))
-        (now (randoms .entry)) (world machine trail (now (memory .entry)) (now (picture .entry)) (now (history .entry))))
+        (now (randoms .entry)) (world machine trail (now (memory .entry)) (bytesOf (now (rows .entry))) (now (history .entry))))
         × (r .copied ≤ 256 * r .accepted) ⌝ }
 {
     let mut v = machine.v;
@@ -148,7 +149,7 @@ fn run_ready(
             &mut stack,
             t,
             memory,
-            picture,
+            rows,
             history,
             ticks[i],
             keys[i],
@@ -174,7 +175,7 @@ pub fn run(
     machine: Machine,
     trail: Trail,
     memory: &mut [u8],
-    picture: &mut [u8],
+    rows: &mut [u64],
     history: &mut [u8],
     ticks: &[u8],
     keys: &[u16],
@@ -182,16 +183,16 @@ pub fn run(
 ) -> Ran
     ensures { λ r. ⌜ GivesRun
         (runs.run (now (ticks .entry)) (now (keys .entry)) (now (randoms .entry))
-        (world machine trail (now (memory .entry)) (now (picture .entry)) (now (history .entry)))) (r .accepted) (r .outcome)
-        (r .machine) (r .trail) (now (memory .exit)) (now (picture .exit)) (now (history .exit)) ⌝ }
+        (world machine trail (now (memory .entry)) (bytesOf (now (rows .entry))) (now (history .entry)))) (r .accepted) (r .outcome)
+        (r .machine) (r .trail) (now (memory .exit)) (bytesOf (now (rows .exit))) (now (history .exit)) ⌝ }
     ensures { λ r. ⌜ (r .dark ≡ runDark (now (ticks .entry)) (now (keys .entry)) (now (randoms .entry))
-        (world machine trail (now (memory .entry)) (now (picture .entry)) (now (history .entry))))
+        (world machine trail (now (memory .entry)) (bytesOf (now (rows .entry))) (now (history .entry))))
         × (r .dark ≤ 120 * r .accepted) × (r .copied ≡ runCopied (now (ticks .entry)) (now (keys .entry)) (now (randoms .entry))
-        (world machine trail (now (memory .entry)) (now (picture .entry)) (now (history .entry))))
+        (world machine trail (now (memory .entry)) (bytesOf (now (rows .entry))) (now (history .entry))))
         × (r .copied ≤ 256 * r .accepted) ⌝ }
 {
     let lists = judge::lists_fit(ticks.len(), keys.len(), randoms.len());
-    let outcome = judge::admitted(machine, trail, memory, picture, history, lists);
+    let outcome = judge::admitted(machine, trail, memory, rows, history, lists);
     let Outcome::Done = outcome else {
         return Ran {
             accepted: 0,
@@ -202,14 +203,5 @@ pub fn run(
             trail,
         };
     };
-    run_ready(
-        machine,
-        trail,
-        memory,
-        picture,
-        history,
-        ticks,
-        keys,
-        randoms,
-    )
+    run_ready(machine, trail, memory, rows, history, ticks, keys, randoms)
 }

@@ -10,10 +10,10 @@ use rules::Machine;
 use stepper::Switch;
 
 // A program loaded and run. A refused load is a run of no step.
-fn run(program: &[u8], picture: &mut [u8]) -> Ran {
+fn run(program: &[u8], rows: &mut [u64]) -> Ran {
     let mut memory = [0u8; Machine::MEMORY];
     let mut history = [0u8; history::PLACE];
-    let start = chip8::load(Edition::Second, program, &mut memory, picture, &mut history);
+    let start = chip8::load(Edition::Second, program, &mut memory, rows, &mut history);
     let outcome = start.outcome;
     let machine = start.machine;
     let trail = start.trail;
@@ -31,7 +31,7 @@ fn run(program: &[u8], picture: &mut [u8]) -> Ran {
         machine,
         trail,
         &mut memory,
-        picture,
+        rows,
         &mut history,
         &[0u8; 64],
         &[0u16; 64],
@@ -49,8 +49,10 @@ fn glass_of<'a>(switch: Switch, picture: &'a [u8], page: &'a [u8]) -> [u8; 1024]
 fn main() {
     let mut input = [0u8; Machine::TOO_LONG];
     let size = io::read_full(0, &mut input);
+    let mut rows = [0u64; Machine::ROWS];
+    let ran = run(&input[..size], &mut rows);
     let mut picture = [0u8; Machine::PICTURE];
-    let ran = run(&input[..size], &mut picture);
+    chip8::to_bytes(&rows, &mut picture);
     let mut page = [0u8; Machine::PICTURE];
     let machine = ran.machine;
     stepper::draw(machine, &mut page);

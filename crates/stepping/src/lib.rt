@@ -6,6 +6,7 @@ ghost use Rattle.rules.specs.World.{world};
 ghost use Rattle.rules.specs.Call as rule;
 ghost use Rattle.rules.specs.Dark.{stepDark};
 ghost use Rattle.rules.specs.Promise.{Gives};
+ghost use Rattle.rules.specs.Rows.{bytesOf};
 ghost use Rattle.stepping.specs.Taken.{taken};
 use parts::Answer;
 use parts::Stepped;
@@ -20,16 +21,16 @@ pub fn step(
     machine: Machine,
     trail: Trail,
     memory: &mut [u8],
-    picture: &mut [u8],
+    rows: &mut [u64],
     history: &mut [u8],
     keys: u16,
     random: u8,
 ) -> Stepped
     ensures { λ r. ⌜ Gives
-        (rule.step keys random (world machine trail (now (memory .entry)) (now (picture .entry)) (now (history .entry))))
-        (r .outcome) (r .machine) (r .trail) (now (memory .exit)) (now (picture .exit)) (now (history .exit)) ⌝ }
+        (rule.step keys random (world machine trail (now (memory .entry)) (bytesOf (now (rows .entry))) (now (history .entry))))
+        (r .outcome) (r .machine) (r .trail) (now (memory .exit)) (bytesOf (now (rows .exit))) (now (history .exit)) ⌝ }
     ensures { λ r. ⌜ (r .dark ≡ stepDark
-        (world machine trail (now (memory .entry)) (now (picture .entry)) (now (history .entry)))) × (r .dark ≤ 120) ⌝ }
+        (world machine trail (now (memory .entry)) (bytesOf (now (rows .entry))) (now (history .entry)))) × (r .dark ≤ 120) ⌝ }
 {
     let ticks = [0];
     let key_list = [keys];
@@ -38,7 +39,7 @@ pub fn step(
         machine,
         trail,
         memory,
-        picture,
+        rows,
         history,
         &ticks,
         &key_list,
@@ -89,16 +90,16 @@ pub fn take(
     machine: Machine,
     trail: Trail,
     memory: &mut [u8],
-    picture: &mut [u8],
+    rows: &mut [u64],
     history: &mut [u8],
 ) -> Answer
     ensures { λ r. ⌜ Gives
-        (taken action (world machine trail (now (memory .entry)) (now (picture .entry)) (now (history .entry)))) (r .outcome)
-        (r .machine) (r .trail) (now (memory .exit)) (now (picture .exit)) (now (history .exit)) ⌝ }
+        (taken action (world machine trail (now (memory .entry)) (bytesOf (now (rows .entry))) (now (history .entry)))) (r .outcome)
+        (r .machine) (r .trail) (now (memory .exit)) (bytesOf (now (rows .exit))) (now (history .exit)) ⌝ }
 {
     match action {
         Action::Step(keys, random) => {
-            let stepped = step(machine, trail, memory, picture, history, keys, random);
+            let stepped = step(machine, trail, memory, rows, history, keys, random);
             let outcome = stepped.outcome;
             let next_machine = stepped.machine;
             let next_trail = stepped.trail;

@@ -5,6 +5,7 @@ ghost use Prim.Native.Nat.{_+_, _*_, _≤_, _<_};
 ghost use lib.ListN.{length, getD, take};
 ghost use Rattle.io.specs.Counts.{Counts};
 ghost use Rattle.rules.specs.World.{world};
+ghost use Rattle.rules.specs.Rows.{bytesOf};
 ghost use Rattle.trace.specs.Trace as rule;
 use rules::Edition;
 use rules::Machine;
@@ -36,12 +37,12 @@ fn put_steps(
     machine: Machine,
     trail: Trail,
     memory: &mut [u8],
-    picture: &mut [u8],
+    rows: &mut [u64],
     history: &mut [u8],
 ) -> usize
     requires { ⌜ at + 64 * 25 + 17 ≤ length (now out) ⌝ }
     ensures { λ r. ⌜ r ≤ length (now (out .entry)) ⌝ }
-    ensures { λ r. ⌜ take r (now (out .exit)) ≡ take at (now (out .entry)) ++ rule.stepsFrom 64 1 (world machine trail (now (memory .entry)) (now (picture .entry)) (now (history .entry))) ⌝ }
+    ensures { λ r. ⌜ take r (now (out .exit)) ≡ take at (now (out .entry)) ++ rule.stepsFrom 64 1 (world machine trail (now (memory .entry)) (bytesOf (now (rows .entry))) (now (history .entry))) ⌝ }
 {
     let mut at = at;
     let mut m = machine;
@@ -50,7 +51,7 @@ fn put_steps(
     while n <= 64 {
         let pc = m.pc;
         let op = word_at(memory, pc);
-        let answer = chip8::step(m, t, memory, picture, history, 0, 0);
+        let answer = chip8::step(m, t, memory, rows, history, 0, 0);
         let outcome = answer.outcome;
         let refusal = parts::number(outcome);
         if refusal != 0 {
@@ -71,14 +72,14 @@ pub fn put_trace(out: &mut [u8; 2048], program: &[u8]) -> usize
     ensures { λ r. ⌜ take r (now (out .exit)) ≡ rule.traceOf (now (program .entry)) ⌝ }
 {
     let mut memory = [0u8; Machine::MEMORY];
-    let mut picture = [0u8; Machine::PICTURE];
+    let mut rows = [0u64; Machine::ROWS];
     let mut history = [0u8; history::PLACE];
     let at = line::put_header(out, 0);
     let start = chip8::load(
         Edition::First,
         program,
         &mut memory,
-        &mut picture,
+        &mut rows,
         &mut history,
     );
     let machine = start.machine;
@@ -94,7 +95,7 @@ pub fn put_trace(out: &mut [u8; 2048], program: &[u8]) -> usize
         machine,
         trail,
         &mut memory,
-        &mut picture,
+        &mut rows,
         &mut history,
     )
 }

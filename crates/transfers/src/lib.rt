@@ -6,11 +6,12 @@ ghost use lib.Dec.{eqb, ltb};
 ghost use lib.ListN.{length, getD, take, drop};
 ghost use Rattle.rules.specs.declared.Wait.the-variants.{Idle};
 ghost use Rattle.rules.specs.Number.{pick};
-ghost use Rattle.rules.specs.State.{memorySize, pictureSize, upTo, withI, withReg, withV, withWait};
+ghost use Rattle.rules.specs.State.{memorySize, upTo, withI, withReg, withV, withWait};
 ghost use Rattle.rules.specs.Registers.{onward};
 ghost use Rattle.rules.specs.Memory.{part, over, digitsOf};
 ghost use Rattle.rules.specs.Picture.{drawn, darkened};
 ghost use Rattle.rules.specs.Step.{rowsChange, changeOf};
+ghost use Rattle.rules.specs.Rows.{bytesOf};
 ghost use Rattle.parts.specs.Whole.{whole};
 ghost use Rattle.transfers.specs.Within.{Within};
 use parts::Core;
@@ -83,10 +84,10 @@ pub fn pattern(i: u16, n: u8, memory: &[u8]) -> &[u8]
 }
 
 // DXYN. The drawing is given the pattern alone.
-pub fn draw(c: Core, v: &mut [u8; 16], x: u8, y: u8, pattern: &[u8], picture: &mut [u8]) -> Acted
-    requires { ⌜ (c .pc ≤ 4094) × (length (now picture) ≡ pictureSize) ⌝ }
-    ensures { λ r. ⌜ now (picture .exit) ≡ drawn (now (pattern .entry)) (getD (now (v .entry)) (x % 16) 0 % 64)
-        (getD (now (v .entry)) (y % 16) 0 % 32) (now (picture .entry)) ⌝ }
+pub fn draw(c: Core, v: &mut [u8; 16], x: u8, y: u8, pattern: &[u8], rows: &mut [u64]) -> Acted
+    requires { ⌜ (c .pc ≤ 4094) × (length (now rows) ≡ 32) ⌝ }
+    ensures { λ r. ⌜ bytesOf (now (rows .exit)) ≡ drawn (now (pattern .entry)) (getD (now (v .entry)) (x % 16) 0 % 64)
+        (getD (now (v .entry)) (y % 16) 0 % 32) (bytesOf (now (rows .entry))) ⌝ }
     ensures { λ r. ⌜
         ((stack : List ℕ) → whole (r .core) (now (v .exit)) stack ≡ withWait Idle
         (onward
@@ -94,13 +95,13 @@ pub fn draw(c: Core, v: &mut [u8; 16], x: u8, y: u8, pattern: &[u8], picture: &m
         (pick
         (ltb 0
         (darkened (now (pattern .entry)) (getD (now (v .entry)) (x % 16) 0 % 64) (getD (now (v .entry)) (y % 16) 0 % 32)
-        (now (picture .entry)))) 1 0) (whole c (now (v .entry)) stack)))) ⌝ }
+        (bytesOf (now (rows .entry))))) 1 0) (whole c (now (v .entry)) stack)))) ⌝ }
     ensures { λ r. ⌜ (r .dark ≡ darkened (now (pattern .entry)) (getD (now (v .entry)) (x % 16) 0 % 64)
-        (getD (now (v .entry)) (y % 16) 0 % 32) (now (picture .entry))) × (r .dark ≤ 8 * length (now (pattern .entry))) ⌝ }
+        (getD (now (v .entry)) (y % 16) 0 % 32) (bytesOf (now (rows .entry)))) × (r .dark ≤ 8 * length (now (pattern .entry))) ⌝ }
 {
     let column = (registers::get(v, x) % 64) as usize;
     let row = row_of(v, y) as usize;
-    let dark = picture::draw(picture, pattern, column, row);
+    let dark = picture::draw(rows, pattern, column, row);
     Acted {
         core: registers::idle(registers::put(c, v, 0xF, registers::flag(0 < dark))),
         dark,

@@ -9,12 +9,12 @@ use std::fmt;
 use std::hint::black_box;
 use std::time::Instant;
 
-use harness::buffers::{Host, Lists};
+use harness::buffers::{Lent, Lists};
 use harness::card::{self, Archive};
 use harness::dots::PANEL;
 use harness::engine::{Engine, ACCEPTED, ANSWER};
 use harness::second::{
-    FIRST_EDITION, HISTORY_MOST, IMAGE, LIST_MOST, MEMORY, PICTURE, PLACE, SECOND_EDITION,
+    FIRST_EDITION, HISTORY_MOST, IMAGE, LIST_MOST, MEMORY, PICTURE, PLACE, ROWS, SECOND_EDITION,
 };
 use harness::tuned::Tuned;
 
@@ -223,6 +223,25 @@ fn clear_places(history: &mut [u8]) {
     black_box(history);
 }
 
+/// What a host holds that works on rows.
+struct Host {
+    image: Vec<u8>,
+    memory: Vec<u8>,
+    rows: Vec<u64>,
+    history: Vec<u8>,
+}
+
+impl Host {
+    fn lend(&mut self) -> Lent<'_, u64> {
+        Lent {
+            image: &mut self.image,
+            memory: &mut self.memory,
+            picture: &mut self.rows,
+            history: &mut self.history,
+        }
+    }
+}
+
 /// A loaded machine with an engine and its lists.
 struct Desk<'a, E> {
     engine: &'a E,
@@ -232,14 +251,14 @@ struct Desk<'a, E> {
     randoms: Vec<u8>,
 }
 
-impl<E: Engine> Desk<'_, E> {
+impl<E: Engine<u64>> Desk<'_, E> {
     fn new<'a>(program: &Program, history_length: usize, engine: &'a E) -> Desk<'a, E> {
         let mut desk = Desk {
             engine,
             host: Host {
                 image: vec![0; IMAGE],
                 memory: vec![0; MEMORY],
-                picture: vec![0; PICTURE],
+                rows: vec![0; ROWS],
                 history: vec![0; history_length],
             },
             ticks: vec![0; LIST_MOST],

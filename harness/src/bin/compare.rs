@@ -40,7 +40,7 @@ struct Wishes {
 fn main() {
     let wishes = wishes();
     println!("seed {}", wishes.seed);
-    let engine: &dyn Engine = if wishes.tuned { &Tuned } else { &Archive };
+    let engine: &dyn Engine<u64> = if wishes.tuned { &Tuned } else { &Archive };
     watch_for_a_call_without_end(wishes.seed);
 
     let random = Random::new(wishes.seed);
@@ -72,7 +72,7 @@ fn main() {
 }
 
 /// Prints a failing case, cut short, and where it fails.
-fn report(engine: &dyn Engine, case: Case) {
+fn report(engine: &dyn Engine<u64>, case: Case) {
     let case = shrink(case, CUTTING, &|case| fails(engine, case));
     let mismatch = check(engine, &case, &mut Tally::default());
     let mismatch = mismatch.expect_err("a cut case still fails");

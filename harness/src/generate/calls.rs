@@ -5,7 +5,7 @@ use crate::buffers::Part;
 use crate::case::Call;
 use crate::engine::ANSWER;
 use crate::random::Random;
-use crate::second::{Machine, LIST_MOST, MOVE_BACK, MOVE_FORWARD, MOVE_STEP, MOVE_TICK};
+use crate::second::{Machine, LIST_MOST, MOVE_BACK, MOVE_FORWARD, MOVE_STEP, MOVE_TICK, ROWS};
 
 pub fn step(random: &Random) -> Call {
     Call::Step {
@@ -68,6 +68,34 @@ pub fn load(random: &Random) -> Call {
             false => hosts::edition(random),
         },
     }
+}
+
+/// A turning between bytes and rows. Either length may be wrong, or both.
+pub fn turning(random: &Random) -> Call {
+    let mut picture = hosts::picture(random);
+    let mut rows: Vec<u64> = (0..ROWS).map(|_| row(random)).collect();
+    if random.once_in(3) {
+        let length = random.pick(&[0, 1, 8, 32, 128, 255, 257, 264, 512, 2048]);
+        picture.resize(length, random.byte());
+    }
+    if random.once_in(3) {
+        rows.resize(random.pick(&hosts::WRONG_ROWS), random.number());
+    }
+    match random.once_in(2) {
+        true => Call::Rows { picture, rows },
+        false => Call::Bytes { rows, picture },
+    }
+}
+
+/// A row of any spots, of none, of all, or of a single one.
+fn row(random: &Random) -> u64 {
+    random.pick(&[
+        0,
+        u64::MAX,
+        1 << random.within(0..=63),
+        random.number(),
+        random.number(),
+    ])
 }
 
 /// A few backs and forwards in any order.

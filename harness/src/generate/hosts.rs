@@ -4,7 +4,8 @@ use super::instructions;
 use crate::buffers::Host;
 use crate::random::Random;
 use crate::second::{
-    Machine, FIRST_EDITION, HISTORY_MOST, LATER, MEMORY, PICTURE, PLACE, SECOND_EDITION, STACK,
+    Machine, BYTES_A_ROW, FIRST_EDITION, HISTORY_MOST, LATER, MEMORY, PICTURE, PLACE,
+    SECOND_EDITION, STACK,
 };
 
 const PLACES_MOST: usize = HISTORY_MOST / PLACE;
@@ -80,7 +81,7 @@ pub fn sound(random: &Random) -> Host {
     }
 }
 
-fn picture(random: &Random) -> Vec<u8> {
+pub fn picture(random: &Random) -> Vec<u8> {
     match random.within(0..=3) {
         0 => vec![0; PICTURE],
         1 => vec![0xFF; PICTURE],
@@ -138,12 +139,18 @@ pub fn spoil_image(image: &mut [u8], places: usize, random: &Random) {
     }
 }
 
+/// Numbers of rows that no call takes.
+pub const WRONG_ROWS: [usize; 8] = [0, 1, 16, 31, 33, 64, 128, 256];
+
 /// Gives one buffer another length, often one next to a limit.
 pub fn spoil_lengths(host: &mut Host, random: &Random) {
     match random.within(0..=3) {
         0 => resize(&mut host.image, &[0, 1, 52, 63, 65, 128], random),
         1 => resize(&mut host.memory, &[0, 256, 3584, 4095, 4097, 8192], random),
-        2 => resize(&mut host.picture, &[0, 255, 257, 512, 1024], random),
+        2 => {
+            let rows = random.pick(&WRONG_ROWS);
+            host.picture.resize(BYTES_A_ROW * rows, random.byte());
+        }
         _ => resize(
             &mut host.history,
             &[

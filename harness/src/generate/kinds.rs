@@ -164,6 +164,20 @@ pub fn loads(random: &Random) -> Case {
     Case { start, calls: made }
 }
 
+/// Turnings between bytes and rows, beside a machine that they leave.
+pub fn turnings(random: &Random) -> Case {
+    let made = (0..random.within(1..=8))
+        .map(|_| match random.once_in(4) {
+            true => calls::any(random),
+            false => calls::turning(random),
+        })
+        .collect();
+    Case {
+        start: hosts::sound(random),
+        calls: made,
+    }
+}
+
 /// FX0A after FX0A, while few keys go up and down.
 pub fn key_waits(random: &Random) -> Case {
     let mut start = hosts::sound(random);

@@ -20,6 +20,7 @@ const KINDS: &[(usize, Kind)] = &[
     (10, kinds::unsound),
     (12, kinds::wrong_lengths),
     (6, kinds::loads),
+    (6, kinds::turnings),
     (6, kinds::key_waits),
     (4, kinds::deep_calls),
     (8, kinds::walk_of_a_program),

@@ -6,7 +6,9 @@ use borrow.Author.Needs.{needs}
 use Rattle.rules.specs.World.{World}
 use Rattle.rules.specs.Run.{play, playRefusal}
 use Rattle.rules.specs.Past.{PlayTells}
+use Rattle.rules.specs.Rows.{bytesOf}
 use Rattle.rules.proofs.Parts.{below-of}
+use Rattle.rules.proofs.Turning.{bytes-below}
 use Rattle.imaged.specs.Imaged.{worldOf, Lent}
 use Rattle.imaged.proofs.Laws.{play-sound, play-left, seen-list}
 use Rattle.imaged.proofs.Chains.{play-stands}
@@ -21,19 +23,19 @@ returns c =
     let known = c .before .before .before .before .before .before .before .before .before .before .before .before .before .before .before .before .before .before .before .before .before in
     let start = known .before .before .before .before in
     let a = start .args in
-    let lent : Lent (a .image .now) (a .memory .now) (a .picture .now) (a .history .now) =
+    let lent : Lent (a .image .now) (a .memory .now) (bytesOf (a .rows .now)) (a .history .now) =
     record {
       size = start .pre;
       image = below-of (a .image .now) (λ i h. (known .before .before .before .slice-known .given i) .fits);
       memory = below-of (a .memory .now) (λ i h. (known .before .before .slice-known2 .given i) .fits);
-      picture = below-of (a .picture .now) (λ i h. (known .before .slice-known3 .given i) .fits);
+      picture = bytes-below (a .rows .now);
       history = below-of (a .history .now) (λ i h. (known .slice-known4 .given i) .fits);
     } in
     let moves = a .moves .now in
     let keys = a .keys .now in
     let randoms = a .randoms .now in
-    let w = worldOf (a .image .now) (a .memory .now) (a .picture .now) (a .history .now) in
-    let leaves = seen-list (a .image .now) (a .memory .now) (a .picture .now) (a .history .now) (lent .size) (lent .image)
+    let w = worldOf (a .image .now) (a .memory .now) (bytesOf (a .rows .now)) (a .history .now) in
+    let leaves = seen-list (a .image .now) (a .memory .now) (bytesOf (a .rows .now)) (a .history .now) (lent .size) (lent .image)
     (playRefusal moves keys randoms w) (play moves keys randoms w) (play-sound moves keys randoms w) (play-left moves keys randoms w)
     _ _ _ _ _ _ _ _ (played .0) (after .0) (after .1) in (
       leaves,

@@ -2,6 +2,7 @@
 use native.Mathlib.Omega.{arith}
 use borrow.Author.Needs.{needs}
 use Rattle.rules.specs.Run.{run, runRefusal}
+use Rattle.rules.specs.Rows.{bytesOf}
 use Rattle.rules.proofs.Parts.{below-of}
 use Rattle.imaged.specs.Imaged.{worldOf}
 use Rattle.imaged.proofs.Laws.{run-sound, run-left, seen-list}
@@ -15,10 +16,10 @@ returns c =
     let after = c .before .before .after-list .ensures in
     let lent = c .before .before .before .before .before .before .before .before .before .before .before .before .before .before .before .before .before .before .before .before .before .before .before .before .before .before in
     let a = lent .before .args in
-    let w = worldOf (a .image .now) (a .memory .now) (a .picture .now) (a .history .now) in
+    let w = worldOf (a .image .now) (a .memory .now) (bytesOf (a .rows .now)) (a .history .now) in
     let refusal = runRefusal (a .ticks .now) (a .keys .now) (a .randoms .now) w in
     let answer = (run (a .ticks .now) (a .keys .now) (a .randoms .now) w) .answer in (
-      seen-list (a .image .now) (a .memory .now) (a .picture .now) (a .history .now) (lent .before .pre)
+      seen-list (a .image .now) (a .memory .now) (bytesOf (a .rows .now)) (a .history .now) (lent .before .pre)
           (below-of (a .image .now) (λ i h. (lent .slice-known .given i) .fits)) refusal answer
           (run-sound (a .ticks .now) (a .keys .now) (a .randoms .now) w) (run-left (a .ticks .now) (a .keys .now) (a .randoms .now) w)
           _ _ _ _ _ _ _ _ (ran .0 .rest) (after .0) (after .1),

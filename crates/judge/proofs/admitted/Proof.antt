@@ -1,5 +1,6 @@
 -- The tests are the callees', and a world that passes them is ready.
 use Rattle.rules.specs.World.{world}
+use Rattle.rules.specs.Rows.{bytesOf}
 use Rattle.rules.proofs.Given.{passed-ready}
 use Rattle.judge.proofs.admitted.Statement.{statement}
 use Rattle.judge.proofs.admitted.Tie as tie
@@ -7,7 +8,7 @@ use Rattle.judge.proofs.admitted.Tie as tie
 returns : tie.Need-returns
 returns c =
     let a = c .before .before .before .before .before .before .args in
-    let w = world (a .m) (a .t) (a .memory .now) (a .picture .now) (a .history .now) in
+    let w = world (a .m) (a .t) (a .memory .now) (bytesOf (a .rows .now)) (a .history .now) in
     let sizes = c .before .before .sizes-fit .ensures in
     let sound = c .before .soundly .ensures in
     let says = rw (sizes .0, sound .0) at (c .tested .ensures) in

@@ -1,35 +1,34 @@
--- The mark and the fields are laid, then zeros, the old bytes over the first of them, the inputs behind the last, and the variables between
--- mark and fields.
+-- The mark and the fields are laid, then zeros, the inputs behind the last of them, and the variables between mark and fields.
 use mathlib.Core.Path.{refl}
 use native.Mathlib.Omega.{arith}
-use Rattle.rules.specs.Record.{mark, count, fields, inputs, recordWith}
+use Rattle.rules.specs.Record.{mark, fields, inputs}
 use Rattle.rules.proofs.Back.{mark-two, inputs-four}
 use Rattle.parts.specs.Whole.{whole}
-use Rattle.keeping.proofs.Laid.{record-laid}
+use Rattle.keeping.specs.Writable.{blank}
+use Rattle.keeping.proofs.Laid.{blank-laid}
 use Rattle.keeping.proofs.write.Statement.{statement}
 use Rattle.keeping.proofs.write.Tie as tie
 
 returns : tie.Need-returns
-unfolding recordWith
+unfolding blank
 returns c =
     let variables = c .before .before in
     let last = variables .before .before .before .before .before in
-    let old = last .before .before .before .before .before in
-    let clear = old .before .before .before .before in
+    let clear = last .before .before .before .before .before in
     let second = clear .before .before .before .before in
     let first = second .before .before .before .before .before in
     let made = first .before .before .before in
-    let start = made .before .before .before .before .before in
+    let start = made .before .before .before .before in
     let ch = start .args .change in
     let a = start .args .action in
     let v = start .args .v .now in
     let f = fields (whole (start .args .c) v (start .args .stack .now)) ch in
-    record-laid (start .args .place .now) (mark ch) f v (start .args .old .now) (inputs a) (count ch)
+    blank-laid (start .args .place .now) (mark ch) f v (inputs a)
     (first .lay .ensures) (made .before .before .mark-of .ensures) (mark-two ch) (omega arith)
     (second .lay2 .ensures) (made .before .fields-of .ensures v) refl (omega arith)
-    (clear .clear-old .ensures) (old .lay3 .ensures) (start .pre .0 .counted) (start .pre .0 .few)
-    (last .lay4 .ensures) (made .inputs-of .ensures) (inputs-four a) (variables .lay-variables .ensures)
+    (clear .clear-old .ensures) (last .lay3 .ensures) (made .inputs-of .ensures) (inputs-four a) (variables .lay-variables .ensures)
 
 pub write-spec : {M : Type 1} → statement M
 write-spec =
-    tie.close (tie.spec (λ c κs. tt) (λ c κs. omega arith) (λ c κs. tt) (λ c. omega arith) (λ c κs. omega arith) (λ c. omega arith) (λ c κs. omega arith) (λ c κs. omega arith) (λ c κs. omega arith) (λ c. omega arith) (λ c κs. omega arith) (λ c κs. omega (arith, c .before .before .before .before .before .before .before .before .before .before .before .before .before .before .before .before .before .before .before .before .before .before .before .before .before .before .before .before .before .before .pre .1 .0)) (λ c. omega arith) returns)
+    tie.close (tie.spec (λ c κs. tt) (λ c κs. omega arith) (λ c κs. tt) (λ c. omega arith) (λ c κs. omega arith) (λ c. omega arith)
+    (λ c κs. omega arith) (λ c κs. omega arith) (λ c. omega arith) (λ c κs. omega arith) (λ c κs. omega (arith, c .before .before .before .before .before .before .before .before .before .before .before .before .before .before .before .before .before .before .before .before .before .before .before .before .before .pre .0)) (λ c. omega arith) returns)

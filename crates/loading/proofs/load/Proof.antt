@@ -2,6 +2,7 @@
 use mathlib.Core.Path.{sym, ap, _∙_}
 use borrow.Author.Needs.{needs}
 use Rattle.rules.specs.Refusal.{number}
+use Rattle.rules.proofs.Turning.{picture-rows}
 use Rattle.loading.proofs.Loaded.{load-refused, load-room, load-gives}
 use Rattle.loading.proofs.load.Statement.{statement}
 use Rattle.loading.proofs.load.Tie as tie
@@ -16,6 +17,11 @@ lay-out-requires c κs =
     let room = load-room _ _ _ _ (sym (c .before .before .before .judged .ensures) ∙ ap number (c .before .enum-told .given .1)) in
     (room .memory, room .short)
 
+clear-requires : tie.Need-clear-requires
+clear-requires c κs =
+    let room = load-room _ _ _ _ (sym (c .before .before .before .before .before .before .before .judged .ensures) ∙ ap number (c .before .before .before .before .before .enum-told .given .1)) in
+    picture-rows (c .before .before .before .before .before .before .before .before .before .before .before .before .before .before .before .before .args .rows .now) (room .picture)
+
 returns-2 : tie.Need-returns-2
 returns-2 c =
     rw (c .before .before .before .before .before .before .before .before .before .before .before .before .before .before .before .before .before .before .fresh .ensures)
@@ -25,4 +31,4 @@ pub load-spec : {M : Type 1} → statement M
 load-spec =
     tie.close
     (tie.spec (search needs) (search needs) (search needs) (search needs) (search needs) (search needs) (search needs) returns lay-out-requires
-    (search needs) (search needs) (search needs) (search needs) (search needs) returns-2)
+    clear-requires (search needs) (search needs) (search needs) (search needs) returns-2)

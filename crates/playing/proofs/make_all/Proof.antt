@@ -5,6 +5,7 @@ use native.Mathlib.Omega.{arith}
 use borrow.Author.Needs.{needs}
 use lib.ListN.{length}
 use Rattle.rules.specs.Refusal.{number}
+use Rattle.rules.specs.Rows.{bytesOf}
 use Rattle.rules.specs.World.{world}
 use Rattle.running.proofs.Entries.{lists-same}
 use Rattle.playing.proofs.Moves.{Playing, played, moved}
@@ -12,15 +13,15 @@ use Rattle.playing.proofs.make_all.Statement.{statement}
 use Rattle.playing.proofs.make_all.Tie as tie
 
 abbrev Inv-loop : tie.InvT-loop
-Inv-loop memory₀ picture₀ history₀ moves keys randoms last₀ i₀ memory picture history last i =
+Inv-loop memory₀ rows₀ history₀ moves keys randoms last₀ i₀ memory rows history last i =
     (length memory ≡ length memory₀)
-    × (length picture ≡ length picture₀)
+    × (length rows ≡ length rows₀)
     × (length history ≡ length history₀)
-    × Playing moves keys randoms (world (last₀ .machine) (last₀ .trail) memory₀ picture₀ history₀)
-    (record { refusal = number (last .outcome); world = world (last .machine) (last .trail) memory picture history }) i
+    × Playing moves keys randoms (world (last₀ .machine) (last₀ .trail) memory₀ (bytesOf rows₀) history₀)
+    (record { refusal = number (last .outcome); world = world (last .machine) (last .trail) memory (bytesOf rows) history }) i
 
 abbrev μ-loop : tie.MeasureT-loop
-μ-loop memory₀ picture₀ history₀ moves keys randoms last₀ i₀ memory picture history last i = length moves - i
+μ-loop memory₀ rows₀ history₀ moves keys randoms last₀ i₀ memory rows history last i = length moves - i
 
 loop-holds : tie.Need-loop-holds Inv-loop μ-loop
 loop-holds c = (refl, refl, refl, record { lists = lists-same _ _ _ (c .before .before .before .before .before .before .pre); inside = omega arith; same = refl })

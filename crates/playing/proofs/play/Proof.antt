@@ -6,6 +6,7 @@ use borrow.Author.Needs.{needs}
 use Rattle.rules.specs.Refusal.{number}
 use Rattle.rules.specs.World.{World, world}
 use Rattle.rules.specs.Run.{listsFit, allMoves}
+use Rattle.rules.specs.Rows.{bytesOf}
 use Rattle.rules.proofs.Parts.{below-of}
 use Rattle.rules.proofs.Ready.{ready-typed}
 use Rattle.rules.proofs.Given.{tests, passed-lists}
@@ -15,7 +16,7 @@ use Rattle.playing.proofs.play.Tie as tie
 
 -- the world that is handed in
 abbrev given : tie.Start → World
-given s = let a = s .args in world (a .machine) (a .trail) (a .memory .now) (a .picture .now) (a .history .now)
+given s = let a = s .args in world (a .machine) (a .trail) (a .memory .now) (bytesOf (a .rows .now)) (a .history .now)
 
 returns : tie.Need-returns
 returns c =

@@ -5,13 +5,14 @@ use borrow.Author.Needs.{needs}
 use borrow.Author.Tests.{not-true, not-false}
 use lib.ListN.{length-take, length-drop}
 use Rattle.rules.specs.World.{World, world}
+use Rattle.rules.specs.Rows.{bytesOf}
 use Rattle.repeating.proofs.Redone.{next-lent, nothing-ahead, kind-unknown, redo-gives}
 use Rattle.repeating.proofs.redo.Statement.{statement}
 use Rattle.repeating.proofs.redo.Tie as tie
 
 -- the world that is handed in
 abbrev given : tie.Start → World
-given s = let a = s .args in world (a .machine) (a .trail) (a .memory .now) (a .picture .now) (a .history .now)
+given s = let a = s .args in world (a .machine) (a .trail) (a .memory .now) (bytesOf (a .rows .now)) (a .history .now)
 
 returns : tie.Need-returns
 returns c = let s = c .before .before .before .before .before in nothing-ahead (given s) (s .pre) (c .if1 .taken)

@@ -2,6 +2,7 @@
 use native.Mathlib.Omega.{arith}
 use borrow.Author.Needs.{needs}
 use Rattle.rules.specs.World.{world}
+use Rattle.rules.specs.Rows.{bytesOf}
 use Rattle.restoring.proofs.Undone.{back-refused}
 use Rattle.restoring.proofs.back.Statement.{statement}
 use Rattle.restoring.proofs.back.Tie as tie
@@ -11,7 +12,7 @@ returns c =
     let refused = c .enum-told2 .given .1 in
     let a = c .before .before .before .before .before .before .before .before .args in
     rw refused
-    (back-refused (world (a .machine) (a .trail) (a .memory .now) (a .picture .now) (a .history .now)) _ (rw refused at (c .before .before .admitted .ensures .0)))
+    (back-refused (world (a .machine) (a .trail) (a .memory .now) (bytesOf (a .rows .now)) (a .history .now)) _ (rw refused at (c .before .before .admitted .ensures .0)))
 
 pub back-spec : {M : Type 1} → statement M
 back-spec =

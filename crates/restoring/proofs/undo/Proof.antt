@@ -7,6 +7,8 @@ use lib.ListN.{length-take, length-drop}
 use Rattle.rules.specs.Record.{damaged}
 use Rattle.rules.specs.World.{World, world}
 use Rattle.rules.specs.Call.{lastRecord}
+use Rattle.rules.specs.Rows.{bytesOf}
+use Rattle.rules.proofs.Turning.{picture-rows}
 use Rattle.rules.proofs.Undo.{usable}
 use Rattle.restoring.proofs.Undone.{flag-read, intact-read, last-lent, nothing-kept, is-damaged, back-gives}
 use Rattle.restoring.proofs.undo.Statement.{statement}
@@ -14,7 +16,7 @@ use Rattle.restoring.proofs.undo.Tie as tie
 
 -- the world that is handed in
 abbrev given : tie.Start → World
-given s = let a = s .args in world (a .machine) (a .trail) (a .memory .now) (a .picture .now) (a .history .now)
+given s = let a = s .args in world (a .machine) (a .trail) (a .memory .now) (bytesOf (a .rows .now)) (a .history .now)
 
 returns : tie.Need-returns
 returns c = let s = c .before .before .before .before .before in nothing-kept (given s) (s .pre) (c .if1 .taken)
@@ -47,7 +49,7 @@ put-back-requires c κs =
     let intact : damaged (lastRecord w) (w .machine .depth) ≡ false = sym (flag-read (lastRecord w) (w .machine) _ read) ∙ c .before .before .before .if2 .left in (
       simp (length-take, length-drop) (omega (arith, c .before .before .before .before .before .before .place-before .ensures .1, c .before .before .before .before .before .before .before .places .ensures)),
       s .pre .good .memory .size,
-      s .pre .good .picture .size,
+      picture-rows (s .args .rows .now) (s .pre .good .picture .size),
       rw (intact-read (lastRecord w) (w .machine) _ read intact) ((usable (lastRecord w) (w .machine .depth) intact) .fits),
     )
 

@@ -1,6 +1,7 @@
 -- The ticks lead to a world that is ready, and the step is made there.
 use native.Mathlib.Omega.{arith}
 use Rattle.rules.specs.World.{World, world}
+use Rattle.rules.specs.Rows.{bytesOf}
 use Rattle.rules.proofs.Ready.{ticks-ready}
 use Rattle.parts.specs.Whole.{whole}
 use Rattle.moves.proofs.OneStep.{tickable}
@@ -10,7 +11,7 @@ use Rattle.running.proofs.entry.Tie as tie
 
 -- the world that is handed in
 abbrev given : tie.Start → World
-given s = let a = s .args in world (whole (a .c) (a .v .now) (a .stack .now)) (a .trail) (a .memory .now) (a .picture .now) (a .history .now)
+given s = let a = s .args in world (whole (a .c) (a .v .now) (a .stack .now)) (a .trail) (a .memory .now) (bytesOf (a .rows .now)) (a .history .now)
 
 ticks-of-requires : tie.Need-ticks-of-requires
 ticks-of-requires c κs = let s = c .before .before .before .before .before .before in tickable (given s) (s .pre)
@@ -18,13 +19,13 @@ ticks-of-requires c κs = let s = c .before .before .before .before .before .bef
 step-requires : tie.Need-step-requires
 step-requires c κs =
     let s = c .before .before .before .before .before .before .before .before .before .before .before .before .before .before .before .before in
-    let ticks = c .before .before .before .before .before .before .before .before .before .ticks-of .ensures (s .args .memory .now) (s .args .picture .now) in
+    let ticks = c .before .before .before .before .before .before .before .before .before .ticks-of .ensures (s .args .memory .now) (bytesOf (s .args .rows .now)) in
     rw (gives-world _ _ _ _ _ _ _ ticks) (ticks-ready (s .args .ticks) (given s) (s .pre))
 
 returns : tie.Need-returns
 returns c =
     let s = c .before .before .before .before .before .before .before .before .before .before .before .before .before .before .before .before .before .before .before .before .before .before .before in
-    let ticks = c .before .before .before .before .before .before .before .before .before .before .before .before .before .before .before .before .ticks-of .ensures (s .args .memory .now) (s .args .picture .now) in
+    let ticks = c .before .before .before .before .before .before .before .before .before .before .before .before .before .before .before .before .ticks-of .ensures (s .args .memory .now) (bytesOf (s .args .rows .now)) in
     let there = gives-world _ _ _ _ _ _ _ ticks in
     let stepped = c .before .before .before .before .before .before .step .ensures in
     (rw there at (stepped .0), (rw there at (stepped .1 .0), stepped .1 .1, rw there at (stepped .1 .2), stepped .1 .3))

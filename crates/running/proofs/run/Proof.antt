@@ -8,6 +8,7 @@ use Rattle.rules.specs.World.{World, world}
 use Rattle.rules.specs.Run.{listsFit, total}
 use Rattle.rules.specs.Dark.{stepDark}
 use Rattle.rules.specs.Copied.{stepCopied}
+use Rattle.rules.specs.Rows.{bytesOf}
 use Rattle.rules.proofs.Given.{tests, passed-lists}
 use Rattle.running.proofs.Entries.{run-refused, run-refused-totals, run-admitted, run-admitted-totals}
 use Rattle.running.proofs.run.Statement.{statement}
@@ -15,7 +16,7 @@ use Rattle.running.proofs.run.Tie as tie
 
 -- the world that is handed in
 abbrev given : tie.Start → World
-given s = let a = s .args in world (a .machine) (a .trail) (a .memory .now) (a .picture .now) (a .history .now)
+given s = let a = s .args in world (a .machine) (a .trail) (a .memory .now) (bytesOf (a .rows .now)) (a .history .now)
 
 returns : tie.Need-returns
 returns c =

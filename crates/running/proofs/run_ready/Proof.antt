@@ -5,20 +5,21 @@ use native.Mathlib.Omega.{arith}
 use borrow.Author.Needs.{needs}
 use lib.ListN.{length}
 use Rattle.rules.specs.World.{world}
+use Rattle.rules.specs.Rows.{bytesOf}
 use Rattle.parts.specs.Whole.{whole}
 use Rattle.running.proofs.Entries.{Running, lists-same, started, ended, ended-totals, went-on, stopped, stopped-totals}
 use Rattle.running.proofs.run_ready.Statement.{statement}
 use Rattle.running.proofs.run_ready.Tie as tie
 
 abbrev Inv-loop : tie.InvT-loop
-Inv-loop memory₀ picture₀ history₀ ticks keys randoms v₀ stack₀ c₀ t₀ dark₀ copied₀ i₀ memory picture history v stack c t dark copied i =
+Inv-loop memory₀ rows₀ history₀ ticks keys randoms v₀ stack₀ c₀ t₀ dark₀ copied₀ i₀ memory rows history v stack c t dark copied i =
     (length memory ≡ length memory₀)
-    × (length picture ≡ length picture₀)
+    × (length rows ≡ length rows₀)
     × (length history ≡ length history₀)
-    × Running ticks keys randoms (world (whole c₀ v₀ stack₀) t₀ memory₀ picture₀ history₀) (world (whole c v stack) t memory picture history) i dark copied
+    × Running ticks keys randoms (world (whole c₀ v₀ stack₀) t₀ memory₀ (bytesOf rows₀) history₀) (world (whole c v stack) t memory (bytesOf rows) history) i dark copied
 
 abbrev μ-loop : tie.MeasureT-loop
-μ-loop memory₀ picture₀ history₀ ticks keys randoms v₀ stack₀ c₀ t₀ dark₀ copied₀ i₀ memory picture history v stack c t dark copied i = length ticks - i
+μ-loop memory₀ rows₀ history₀ ticks keys randoms v₀ stack₀ c₀ t₀ dark₀ copied₀ i₀ memory rows history v stack c t dark copied i = length ticks - i
 
 loop-holds : tie.Need-loop-holds Inv-loop μ-loop
 loop-holds c =
@@ -35,8 +36,8 @@ shared-slice-read-entry-3 c = omega (arith, c .before .before .before .before .b
 memory-length : (c : tie.After-entry Inv-loop μ-loop) → length (c .entry .last .1 .1 .1 .1 .0) ≡ length (c .before .before .before .before .before .before .before .before .before .before .before .before .before .before .before .before .before .before .before .before .args .memory .now)
 memory-length c = let same : length (c .entry .last .1 .1 .1 .1 .0) ≡ length (c .before .before .before .before .before .before .before .before .before .before .loop .memory) = search needs in same ∙ c .before .before .before .before .before .before .before .before .before .before .loop .inv .0
 
-picture-length : (c : tie.After-entry Inv-loop μ-loop) → length (c .entry .last .1 .1 .1 .1 .1 .0) ≡ length (c .before .before .before .before .before .before .before .before .before .before .before .before .before .before .before .before .before .before .before .before .args .picture .now)
-picture-length c = let same : length (c .entry .last .1 .1 .1 .1 .1 .0) ≡ length (c .before .before .before .before .before .before .before .before .before .before .loop .picture) = search needs in same ∙ c .before .before .before .before .before .before .before .before .before .before .loop .inv .1
+rows-length : (c : tie.After-entry Inv-loop μ-loop) → length (c .entry .last .1 .1 .1 .1 .1 .0) ≡ length (c .before .before .before .before .before .before .before .before .before .before .before .before .before .before .before .before .before .before .before .before .args .rows .now)
+rows-length c = let same : length (c .entry .last .1 .1 .1 .1 .1 .0) ≡ length (c .before .before .before .before .before .before .before .before .before .before .loop .rows) = search needs in same ∙ c .before .before .before .before .before .before .before .before .before .before .loop .inv .1
 
 history-length : (c : tie.After-entry Inv-loop μ-loop) → length (c .entry .last .1 .1 .1 .1 .1 .1 .0) ≡ length (c .before .before .before .before .before .before .before .before .before .before .before .before .before .before .before .before .before .before .before .before .args .history .now)
 history-length c = let same : length (c .entry .last .1 .1 .1 .1 .1 .1 .0) ≡ length (c .before .before .before .before .before .before .before .before .before .before .loop .history) = search needs in same ∙ c .before .before .before .before .before .before .before .before .before .before .loop .inv .2
@@ -57,7 +58,7 @@ loop-again : tie.Need-loop-again Inv-loop μ-loop
 loop-again c =
     let entry = c .before .before .before .before .before .before .before .before .before .before .before .before .entry .ensures in (
       memory-length (c .before .before .before .before .before .before .before .before .before .before .before .before),
-      picture-length (c .before .before .before .before .before .before .before .before .before .before .before .before),
+      rows-length (c .before .before .before .before .before .before .before .before .before .before .before .before),
       history-length (c .before .before .before .before .before .before .before .before .before .before .before .before),
       went-on _ _ _ _ _ _ _ _ (c .before .before .before .before .before .before .before .before .before .before .before .before .before .before .before .before .before .before .before .before .before .before .loop .inv .3) (c .before .before .before .before .before .before .before .before .before .before .before .before .before .before .before .before .before .before .before .before .before .loop-test .taken) _ _ _ _ _ _ _ (rw (c .before .before .enum-told .given .1) at (entry .0)) (entry .1 .0) (entry .1 .1) (entry .1 .2) (entry .1 .3),
     )
@@ -73,7 +74,7 @@ pub run-ready-spec : {M : Type 1} → statement M
 run-ready-spec =
     tie.close (tie.spec Inv-loop μ-loop
     (λ c κs. tt) loop-holds (λ c. omega arith) (λ c. omega arith) shared-slice-read-entry-2 shared-slice-read-entry-3 (λ c κs. c .before .before .before .before .before .before .before .before .before .loop .inv .3 .ready)
-    (search needs) (search needs) (λ c κs. tt) (λ c. memory-length (c .before .before .before .before .before .before .before .before .before .before .before)) (λ c. picture-length (c .before .before .before .before .before .before .before .before .before .before .before)) (λ c. history-length (c .before .before .before .before .before .before .before .before .before .before .before)) returns
+    (search needs) (search needs) (λ c κs. tt) (λ c. memory-length (c .before .before .before .before .before .before .before .before .before .before .before)) (λ c. rows-length (c .before .before .before .before .before .before .before .before .before .before .before)) (λ c. history-length (c .before .before .before .before .before .before .before .before .before .before .before)) returns
     (λ c. let inv = c .before .before .before .before .before .before .before .before .before .before .before .before .before .before .before .before .before .before .before .before .before .loop .inv .3 in omega (arith, inv .spots .few, inv .inside, inv .lists .few, c .before .before .before .before .before .before .before .before .before .before .before .entry .ensures .1 .1))
     (λ c. let inv = c .before .before .before .before .before .before .before .before .before .before .before .before .before .before .before .before .before .before .before .before .before .before .loop .inv .3 in omega (arith, inv .bytes .few, inv .inside, inv .lists .few, c .before .before .before .before .before .before .before .before .before .before .before .before .entry .ensures .1 .3))
     (λ c. let inv = c .before .before .before .before .before .before .before .before .before .before .before .before .before .before .before .before .before .before .before .before .before .before .loop .inv .3 in omega (arith, inv .inside, inv .lists .few)) (λ c. omega (arith, c .before .before .before .before .before .before .before .before .before .before .before .before .before .before .before .before .before .before .before .before .before .loop-test .taken)) loop-again

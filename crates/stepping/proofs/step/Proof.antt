@@ -3,6 +3,7 @@ use mathlib.Core.Path.{_∙_}
 use native.Mathlib.Omega.{arith}
 use borrow.Author.Needs.{needs}
 use Rattle.rules.specs.World.{world}
+use Rattle.rules.specs.Rows.{bytesOf}
 use Rattle.stepping.proofs.Alone.{alone-gives, alone-dark, alone-few}
 use Rattle.stepping.proofs.step.Statement.{statement}
 use Rattle.stepping.proofs.step.Tie as tie
@@ -10,7 +11,7 @@ use Rattle.stepping.proofs.step.Tie as tie
 returns : tie.Need-returns
 returns c =
     let a = c .before .before .before .before .before .before .before .before .before .before .before .before .before .before .before .before .before .before .args in
-    let w = world (a .machine) (a .trail) (a .memory .now) (a .picture .now) (a .history .now) in
+    let w = world (a .machine) (a .trail) (a .memory .now) (bytesOf (a .rows .now)) (a .history .now) in
     let ran = c .before .before .before .before .before .before .before .before .run .ensures in
     let one = alone-few (a .keys) (a .random) w in (
       alone-gives (a .keys) (a .random) w _ _ _ _ _ _ (ran .0 .rest),

@@ -5,6 +5,7 @@ use Prim.Native.Nat.{_-_}
 use native.Mathlib.Omega.{arith}
 use borrow.Author.Needs.{needs}
 use lib.ListN.{length, take}
+use Rattle.rules.specs.Rows.{bytesOf}
 use Rattle.rules.specs.World.{world}
 use Rattle.trace.specs.Trace.{stepsFrom}
 use Rattle.trace.proofs.Printed.{Printed, handed, stopped, ended, more}
@@ -12,12 +13,12 @@ use Rattle.trace.proofs.steps.put_steps.Statement.{statement}
 use Rattle.trace.proofs.steps.put_steps.Tie as tie
 
 abbrev Inv-loop : tie.InvT-loop
-Inv-loop out₀ at memory₀ picture₀ history₀ at₀ m₀ t₀ n₀ out memory picture history at' m t n =
-    Printed (take at₀ out₀ ++ stepsFrom 64 1 (world m₀ t₀ memory₀ picture₀ history₀)) out at' n (world m t memory picture history)
-    × (length out ≡ length out₀) × (length memory ≡ length memory₀) × (length picture ≡ length picture₀) × (length history ≡ length history₀)
+Inv-loop out₀ at memory₀ rows₀ history₀ at₀ m₀ t₀ n₀ out memory rows history at' m t n =
+    Printed (take at₀ out₀ ++ stepsFrom 64 1 (world m₀ t₀ memory₀ (bytesOf rows₀) history₀)) out at' n (world m t memory (bytesOf rows) history)
+    × (length out ≡ length out₀) × (length memory ≡ length memory₀) × (length rows ≡ length rows₀) × (length history ≡ length history₀)
 
 abbrev μ-loop : tie.MeasureT-loop
-μ-loop out₀ at memory₀ picture₀ history₀ at₀ m₀ t₀ n₀ out memory picture history at' m t n = 65 - n
+μ-loop out₀ at memory₀ rows₀ history₀ at₀ m₀ t₀ n₀ out memory rows history at' m t n = 65 - n
 
 loop-holds : tie.Need-loop-holds Inv-loop μ-loop
 loop-holds c = (record { first = omega arith; last = omega arith; room = omega arith; done = refl }, refl, refl, refl, refl)

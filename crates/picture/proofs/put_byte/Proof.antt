@@ -1,0 +1,16 @@
+-- What is turned over is where the two bytes differ.
+use native.Mathlib.Omega.{arith}
+use lib.ListN.{length-set}
+use Rattle.picture.proofs.Put.{byte-put}
+use Rattle.picture.proofs.put_byte.Statement.{statement}
+use Rattle.picture.proofs.put_byte.Tie as tie
+
+returns : tie.Need-returns
+returns c =
+    let a = c .before .before .before .before .args in
+    rw (c .wide .ensures .0, c .before .byte-in .ensures) (byte-put (a .rows .now) (a .k) (a .b) (omega arith) (omega arith))
+
+pub put-byte-spec : {M : Type 1} → statement M
+put-byte-spec =
+    tie.close (tie.spec (λ c. omega arith) (λ c. omega arith) (λ c κs. omega arith) (λ c κs. tt) (λ c. omega arith) (λ c. omega arith)
+    (λ c. omega arith) (λ c. omega arith) (λ c. omega arith) (λ c. simp length-set) returns)

@@ -1,0 +1,2 @@
+-- What the test of the lengths tells.
+pub mod Lengths

@@ -1,0 +1,2 @@
+-- What the two calls promise.
+pub mod Turn
