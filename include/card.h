@@ -15,7 +15,8 @@
  * The host owns every byte. The library allocates nothing and keeps nothing
  * between two calls: whoever holds the four buffers holds the machine.
  *
- *   image    64 bytes      registers, stack, timers and history numbers
+ *   image    64 bytes      registers, stack, timers, history numbers and the
+ *                          number of lit spots
  *   memory   4,096 bytes   the program and its data
  *   rows     32 numbers    64 by 32 spots, a number of 64 bits for each row, top
  *                          row first, the highest bit leftmost, 1 for a lit spot
@@ -53,7 +54,9 @@
  *     only read may: a run's ticks and random bytes can be one list of zeros.
  *   - Any contents are allowed. A state that cannot be is refused with
  *     CARD_UNSOUND; a history that somebody else wrote in may be refused with
- *     CARD_DAMAGED_RECORD.
+ *     CARD_DAMAGED_RECORD. A host that changes the rows itself, with card_rows
+ *     too, has to set the number of lit spots in the image as well, or that is
+ *     false from then on.
  *   - Somebody has written the contents. What is proved speaks of bytes that have
  *     a value, so buffers that are still uninitialised are outside of it. An
  *     accepted card_load writes every byte of image, memory, rows and history,
@@ -74,6 +77,20 @@
  * otherwise than bytes do. card_rows and card_bytes turn one into the other, and
  * nothing is lost either way.
  *
+ * THE LIT SPOTS
+ *
+ * The image holds the number of lit spots, 0 to 2,048, so that a brightness
+ * control need not count them after every step. A load sets it to 0. A step, a
+ * back or a forward adds to it the lit spots in the bytes that it changes,
+ * counted after less before; a tick leaves it. So after an accepted load it is
+ * the count of the rows, and it stays so over every call that takes a state, for
+ * as long as nobody else writes in the buffers.
+ *
+ * A number that somebody else wrote may be false. Up to 2,048 it is taken and
+ * counted on in the same way; but an action that would take it below 0 or above
+ * 2,048 is refused with CARD_UNSOUND, after all other numbers. With a true number
+ * that never occurs. A number above 2,048 is a state that cannot be.
+ *
  * THE ANSWER
  *
  * Every function returns 0 (CARD_DONE) or a refusal number. A refused call
@@ -81,7 +98,8 @@
  *   - card_load leaves the fresh image in a 64-byte image, refused or not;
  *   - card_step and card_run write all four numbers of the answer, refused or
  *     not, unless the answer itself has a wrong length;
- *   - card_run and card_play keep the actions that were accepted before.
+ *   - card_run and card_play keep the actions that were accepted before,
+ *     whichever number comes after them.
  *
  * AN EXAMPLE
  *
@@ -140,6 +158,7 @@ extern "C" {
 #define CARD_COLUMNS 64
 #define CARD_ROWS 32
 #define CARD_BYTES_A_ROW 8
+#define CARD_SPOTS 2048
 #define CARD_PANEL 1024
 #define CARD_PANEL_COLUMNS 128
 #define CARD_PANEL_ROWS 64
@@ -174,7 +193,9 @@ enum card_refusal {
     CARD_PROGRAM_LENGTH = 8,   /* a program of 0 or over 3,584 bytes */
     CARD_LENGTH = 9,           /* a buffer or a list has a wrong length */
     CARD_UNSOUND = 10,         /* a state that cannot be, next, kept or ahead
-                                  too; in a load an edition that there is not */
+                                  too; in a load an edition that there is not;
+                                  late, a change that would take the number of
+                                  lit spots below 0 or above 2,048 */
     CARD_DAMAGED_RECORD = 11,  /* a back or a forward onto a damaged record */
     CARD_NOTHING_AHEAD = 12    /* a forward with ahead 0 */
 };
@@ -182,16 +203,22 @@ enum card_refusal {
 /*
  * If more than one applies, the number that is given is the first of
  *   load     9, 10, 8
- *   step     9, 10, 1, then 2 or 3, then 4, 5 or 6
+ *   step     9, 10, 1, then 2 or 3, then 4, 5 or 6, then 10 late
  *   tick     9, 10
- *   back     9, 10, 7, 11
- *   forward  9, 10, 12, 11, then those of its step from 1 on
- *   run      9, 10, then that of the step that ended it
- *   play     9, 10, then that of the last move
+ *   back     9, 10, 7, 11, then 10 late
+ *   forward  9, 10, 12, 11, then those of its step from 1 on, 10 late too
+ *   run      9, 10, then that of the step that ended it, 10 late too
+ *   play     9, 10, then that of the last move, 10 late too
  *   rows     9
  *   bytes    9
  *   panel    9
  *   page     9, 10
+ *
+ * The late 10 is said of the number of lit spots alone: the state is one that can
+ * be, but the number in it is false. Like every refusal of an action it leaves
+ * everything. A run ends there and a play goes on, and both keep the actions
+ * before it. So CARD_UNSOUND of a run or a play does not say that nothing was
+ * done.
  */
 
 /* ---- The image ---------------------------------------------------------- */
@@ -208,8 +235,9 @@ enum card_refusal {
 #define CARD_AT_NEXT 48    /* two bytes: the place of the next record */
 #define CARD_AT_KEPT 50    /* two bytes: how many actions can be taken back */
 #define CARD_AT_EDITION 52 /* one of the two below */
-#define CARD_AT_LATER 53   /* for later use, 0, and 56 to 63 likewise */
+#define CARD_AT_LATER 53   /* for later use, 0, and 58 to 63 likewise */
 #define CARD_AT_AHEAD 54   /* two bytes: how many actions can be made again */
+#define CARD_AT_LIT 56     /* two bytes: how many spots are lit, 0 to 2,048 */
 
 #define CARD_NO_KEY 0xFF
 
@@ -244,7 +272,8 @@ enum card_refusal {
  * The image becomes the fresh one (PC 0200, held key FF, the edition that was
  * asked for, all else 0) even when the load is refused, provided it has 64 bytes.
  * It has the first edition where no such edition was asked for, whichever number
- * refuses the load. A refused load leaves memory, rows and history.
+ * refuses the load. A refused load leaves memory, rows and history; so its number
+ * of lit spots, 0, is false where the rows are not dark.
  */
 uint32_t card_load(const uint8_t *program, size_t program_length,
                    uint8_t edition,
@@ -319,6 +348,10 @@ uint32_t card_forward(uint8_t *image, size_t image_length,
  * X + 1 for FX55, 8 for each row that DXYN draws, 256 for 00E0, and 0 for every
  * other step. Ticks add nothing. When a refused step ends the run, all three speak
  * of the steps before it; when the run itself is refused, they are 0.
+ *
+ * CARD_UNSOUND may be either. For a state that cannot be, the run itself is
+ * refused, and nothing was done. For a false number of lit spots a step is
+ * refused, late, and the image shows what was done before it.
  */
 uint32_t card_run(uint8_t *image, size_t image_length,
                   uint8_t *memory, size_t memory_length,
@@ -346,7 +379,8 @@ enum card_move {
  * Lists of unequal or greater length, or a move other than these four
  * anywhere, are CARD_LENGTH, and a state that cannot be is CARD_UNSOUND. Both
  * are tested before the first move; a play that is refused there changes
- * nothing.
+ * nothing. CARD_UNSOUND may also be the last move's own, late, for a false number
+ * of lit spots; the moves before it stand then.
  */
 uint32_t card_play(uint8_t *image, size_t image_length,
                    uint8_t *memory, size_t memory_length,

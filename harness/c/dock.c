@@ -178,14 +178,26 @@ static void put_instruction(unsigned at, unsigned word) {
     desk.memory[at + 1] = (uint8_t)word;
 }
 
+static unsigned count_spots(void) {
+    unsigned lit = 0;
+    for (int y = 0; y < CARD_ROWS; y++) {
+        for (int x = 0; x < CARD_COLUMNS; x++) {
+            lit += (unsigned)(desk.rows[y] >> (63 - x) & 1);
+        }
+    }
+    return lit;
+}
+
 static void show_state(void) {
     printf("pc %04X i %04X v0 %02X v1 %02X v2 %02X v3 %02X vf %02X depth %u "
-           "delay %02X tone %02X held %02X kept %u ahead %u\n",
+           "delay %02X tone %02X held %02X kept %u ahead %u lit %u\n",
            number(CARD_AT_PC), number(CARD_AT_I), desk.image[0], desk.image[1],
            desk.image[2], desk.image[3], desk.image[15],
            desk.image[CARD_AT_DEPTH], desk.image[CARD_AT_DELAY],
            desk.image[CARD_AT_TONE], desk.image[CARD_AT_HELD],
-           number(CARD_AT_KEPT), number(CARD_AT_AHEAD));
+           number(CARD_AT_KEPT), number(CARD_AT_AHEAD), number(CARD_AT_LIT));
+    expect(number(CARD_AT_LIT) == count_spots(),
+           "the number of lit spots is not the count of the rows");
 }
 
 static int spot(const uint8_t *picture, int x, int y) {
@@ -347,6 +359,59 @@ static void the_button(void) {
     expect(desk.image[CARD_AT_V] == 0, "the random byte was taken back");
     press("forward", forward, CARD_DONE);
     expect(desk.image[CARD_AT_V] == 0xA5, "the random byte of then counts");
+}
+
+/* ---- The brightness control --------------------------------------------- */
+
+/* As bright as the number of lit spots says, which the dock need not count. */
+static void show_brightness(const char *what) {
+    unsigned lit = number(CARD_AT_LIT);
+    printf("%-10s %2u of %u lit\n", what, lit, CARD_SPOTS);
+    expect(lit == count_spots(),
+           "the number of lit spots is not the count of the rows");
+}
+
+static void the_brightness(void) {
+    static const uint8_t program[] = {
+        0x61, 0x05, /* 0200 V1 = 5, a column and a row */
+        0xF1, 0x29, /* 0202 I = the digit 5 */
+        0xD1, 0x15, /* 0204 draw it */
+        0x71, 0x02, /* 0206 V1 += 2 */
+        0xD1, 0x15, /* 0208 draw it again, over itself in part */
+        0x61, 0x3E, /* 020A V1 = 3E, a column near the right edge */
+        0xD1, 0x15, /* 020C draw it; most of it is dropped */
+        0x00, 0xE0, /* 020E clear the picture */
+    };
+    static const uint8_t zeros[8];
+    static const uint16_t no_keys[8];
+
+    load(program, sizeof program, CARD_FIRST_EDITION);
+    show_brightness("load");
+    for (size_t count = 0; count < sizeof program / 2; count++) {
+        expect(step(0, 0) == CARD_DONE, "a step was refused");
+        show_brightness("step");
+    }
+    while (back() == CARD_DONE) {
+        show_brightness("back");
+    }
+    while (forward() == CARD_DONE) {
+        show_brightness("forward");
+    }
+    expect(number(CARD_AT_LIT) == 0, "a cleared picture has no lit spot");
+
+    load(program, sizeof program, CARD_FIRST_EDITION);
+    set_number(CARD_AT_LIT, CARD_SPOTS - 13);
+    uint32_t refusal = run(zeros, no_keys, zeros, 8);
+    printf("run with a false number: %u steps accepted, stop %u at %04X\n",
+           (unsigned)desk.answer[CARD_ACCEPTED], (unsigned)refusal,
+           number(CARD_AT_PC));
+    expect(refusal == CARD_UNSOUND, "14 spots more are too many");
+    expect(desk.answer[CARD_ACCEPTED] == 2 && number(CARD_AT_KEPT) == 2,
+           "the steps before the drawing stand");
+    expect(number(CARD_AT_LIT) == CARD_SPOTS - 13, "what is refused adds nothing");
+    set_number(CARD_AT_LIT, CARD_SPOTS - 14);
+    expect(step(0, 0) == CARD_DONE && number(CARD_AT_LIT) == CARD_SPOTS,
+           "14 spots fit exactly");
 }
 
 /* ---- A run and a play --------------------------------------------------- */
@@ -528,6 +593,35 @@ static void refusals(void) {
     set_number(CARD_AT_AHEAD, 1);
     remember();
     refused(forward(), CARD_UNSOUND, "kept and ahead above the places");
+
+    prepare(0x6000);
+    set_number(CARD_AT_LIT, CARD_SPOTS + 1);
+    remember();
+    refused(tick(), CARD_UNSOUND, "2,049 lit spots");
+    refused(draw_page(), CARD_UNSOUND, "a page of 2,049 lit spots");
+
+    prepare(0xD005);
+    set_number(CARD_AT_LIT, CARD_SPOTS);
+    remember();
+    refused(step(0, 0), CARD_UNSOUND,
+            "a drawing that lights, with 2,048 lit spots");
+    set_number(CARD_AT_I, 0x0FFC);
+    remember();
+    refused(step(0, 0), CARD_PAST_MEMORY,
+            "the same past memory, said before the lit spots");
+    set_number(CARD_AT_I, 0);
+    set_number(CARD_AT_LIT, 0);
+    expect(step(0, 0) == CARD_DONE, "a drawing is accepted");
+    set_number(CARD_AT_LIT, 13);
+    remember();
+    refused(back(), CARD_UNSOUND,
+            "a back that darkens 14 spots, with 13 lit spots");
+    set_number(CARD_AT_LIT, 14);
+    expect(back() == CARD_DONE, "14 lit spots are enough");
+    set_number(CARD_AT_LIT, CARD_SPOTS - 13);
+    remember();
+    refused(forward(), CARD_UNSOUND,
+            "a forward that lights 14 spots, with 2,035 lit spots");
 
     prepare(0x6001);
     expect(step(0, 0) == CARD_DONE, "6001 is accepted");
@@ -714,6 +808,7 @@ static void the_page(void) {
 int main(void) {
     there_and_back();
     the_button();
+    the_brightness();
     run_and_play();
     refusals();
     second_edition();

@@ -4,7 +4,7 @@
 use std::fmt;
 
 use crate::buffers::{Host, Lists, Part, PARTS};
-use crate::second::{Machine, IMAGE, PLACE};
+use crate::second::{lit_spots, Machine, IMAGE, PLACE};
 
 #[derive(Clone, Debug, PartialEq, Eq)]
 pub enum Call {
@@ -119,6 +119,12 @@ impl fmt::Display for Host {
                 f,
                 "    PC {:04X}, I {:04X}, depth {}, delay {:02X}, tone {:02X}, wait {:?}, next {}, kept {}, ahead {}, edition {}",
                 m.pc, m.i, m.depth, m.delay, m.tone, m.wait, m.next, m.kept, m.ahead, m.edition
+            )?;
+            let spots = lit_spots(&self.picture);
+            writeln!(
+                f,
+                "    number of lit spots {}, in the picture {spots}",
+                m.lit
             )?;
         }
         for (part, name) in PARTS {

@@ -9,6 +9,7 @@ use crate::engine::{Engine, Second};
 use crate::guard::{Guarded, Item};
 use crate::plain_list::PlainList;
 use crate::rows::{bytes_of, rows_of};
+use crate::second::{lit_spots, test_state, Machine, Refusal, IMAGE};
 use crate::tally::Tally;
 use crate::{card, dots, page};
 
@@ -31,6 +32,7 @@ pub fn check(engine: &dyn Engine<u64>, case: &Case, tally: &mut Tally) -> Result
         expected: case.start.clone(),
         got: case.start.each().map(|buffer| Guarded::buffer(buffer)),
         list: PlainList::start(&case.start),
+        lit_is_true: lit_is_true(&case.start),
     };
     for (number, call) in case.calls.iter().enumerate() {
         let refusal = match call {
@@ -44,6 +46,9 @@ pub fn check(engine: &dyn Engine<u64>, case: &Case, tally: &mut Tally) -> Result
         };
         let refusal = refusal.map_err(|what| Mismatch { call: number, what })?;
         tally.count(call, refusal);
+        if sides.said_late(call, refusal) {
+            tally.count_late(call);
+        }
     }
     Ok(())
 }
@@ -140,6 +145,8 @@ struct Sides {
     expected: Host,
     got: Buffers<Guarded<u8>>,
     list: Option<PlainList>,
+    /// Whether the number of lit spots is the picture's.
+    lit_is_true: bool,
 }
 
 impl Sides {
@@ -147,6 +154,7 @@ impl Sides {
         write_bytes(self.expected.part_mut(part), at, bytes);
         write_bytes(self.got.part_mut(part).lent(), at, bytes);
         self.list = None;
+        self.lit_is_true = lit_is_true(&self.expected);
     }
 
     /// Makes one call on both sides and compares all that it left.
@@ -189,6 +197,7 @@ impl Sides {
             compare_buffer(name, self.expected.part(*part), self.got.part(*part))?;
         }
         self.follow(call, refusal)?;
+        self.look_at_lit(call, refusal)?;
         Ok(refusal)
     }
 
@@ -214,6 +223,41 @@ impl Sides {
         }
         Ok(())
     }
+
+    /// the number of lit spots is true after an accepted load, and every call
+    /// that takes a state leaves a true one true and is not refused because of it.
+    fn look_at_lit(&mut self, call: &Call, refusal: u32) -> Result<(), String> {
+        let must_be_true = match call {
+            Call::Load { .. } => refusal == 0,
+            _ => self.lit_is_true,
+        };
+        self.lit_is_true = lit_is_true(&self.expected);
+        if must_be_true && !self.lit_is_true {
+            return Err("the number of lit spots is not the picture's".to_string());
+        }
+        if must_be_true && self.said_late(call, refusal) {
+            return Err("a true number of lit spots was refused".to_string());
+        }
+        Ok(())
+    }
+
+    /// Whether a call gave 10 because of a change of the number of lit spots. The
+    /// state was in order then, and still is, since what was refused left it.
+    fn said_late(&self, call: &Call, refusal: u32) -> bool {
+        let takes_a_state = !matches!(call, Call::Load { .. });
+        takes_a_state
+            && refusal == Refusal::Unsound as u32
+            && test_state(
+                &Machine::from_image(&self.expected.image),
+                &self.expected.history,
+            )
+            .is_ok()
+    }
+}
+
+/// Whether the number of lit spots in a host's image is that of its picture.
+fn lit_is_true(host: &Host) -> bool {
+    host.image.len() == IMAGE && Machine::from_image(&host.image).lit == lit_spots(&host.picture)
 }
 
 /// The lists lent to the engine under test, which no call may change.

@@ -7,8 +7,8 @@ use crate::case::{hex, Call, Case};
 use crate::check::{check, check_page, check_panel, make, Filled, UNWRITTEN};
 use crate::engine::{Engine, Second, ANSWER};
 use crate::second::{
-    Machine, BYTES_A_ROW, FIRST_EDITION, HISTORY_MOST, IMAGE, LATER, LIST_MOST, MEMORY, PICTURE,
-    PLACE, ROWS,
+    lit_spots, Machine, BYTES_A_ROW, FIRST_EDITION, HISTORY_MOST, IMAGE, LATER, LIST_MOST, MEMORY,
+    PICTURE, PLACE, ROWS,
 };
 use crate::tally::Tally;
 use crate::{dots, tuned::Tuned};
@@ -84,6 +84,7 @@ fn fields() -> Vec<Field> {
         field("next", 48, Form::Count, None),
         field("kept", 50, Form::Count, None),
         field("ahead", 54, Form::Count, Some(0)),
+        field("lit", 56, Form::Count, Some(0)),
         field("edition", 52, Form::Byte, Some(0)),
     ]);
     fields.extend(LATER.map(|at| field(&format!("byte {at}"), at, Form::Byte, Some(0))));
@@ -318,8 +319,18 @@ impl Desk {
         match name {
             "keys" => write(&mut self.keys, at, &numbers(values)?),
             "rows" => write(&mut self.rows, at, &numbers(values)?),
+            "picture" => {
+                write(&mut self.buffer(name)?.bytes, at, &numbers(values)?)?;
+                self.count_lit()
+            }
             _ => write(&mut self.buffer(name)?.bytes, at, &numbers(values)?),
         }
+    }
+
+    /// A case has a true number of lit spots, unless it sets another afterwards.
+    fn count_lit(&mut self) -> Result<(), String> {
+        let lit = lit_spots(&self.known("picture").bytes[..PICTURE]);
+        self.set("lit", &lit.to_string())
     }
 
     fn lend(&mut self, sizes: &[&str]) -> Result<(), String> {
@@ -424,6 +435,7 @@ impl Desk {
         })?;
         let refusal = Second.bytes(&rows, &mut picture);
         self.keep("picture", &picture);
+        self.count_lit()?;
         Ok(told_refusal(refusal))
     }
 

@@ -25,7 +25,9 @@ pub struct PlainList {
 
 #[derive(Clone)]
 struct State {
-    /// Its next, kept and ahead are not used: the list has its own counts.
+    /// Its next, kept and ahead are not used: the list has its own counts. Its
+    /// number of lit spots may even be false: what an action adds to it, the back
+    /// over that action takes away again.
     machine: Machine,
     memory: Vec<u8>,
     picture: Vec<u8>,

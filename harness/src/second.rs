@@ -4,6 +4,8 @@
 //! It is written from those papers alone and shares no line with the card. It is
 //! meant to be read beside them, so it is simple rather than fast.
 
+use std::ops::Range;
+
 // ---- The machine ----------------------------------------------------------
 
 pub const MEMORY: usize = 4096;
@@ -17,6 +19,8 @@ pub const PROGRAM_MOST: usize = 3584;
 pub const PLACE: usize = 292;
 pub const HISTORY_MOST: usize = 65_536;
 pub const LIST_MOST: usize = 4096;
+/// The spots of a picture, and so the highest number of lit ones.
+pub const SPOTS: u16 = 2048;
 
 /// The editions of the instruction set.
 pub const FIRST_EDITION: u8 = 0;
@@ -40,6 +44,9 @@ pub struct Machine {
     pub ahead: u16,
     /// First or second. A state handed in may have a number that is neither.
     pub edition: u8,
+    /// The number of lit spots. One handed in may be false, even above the
+    /// number of all spots.
+    pub lit: u16,
     /// The image's bytes that are kept for later. Sound only when all are 0.
     pub later: [u8; LATER.len()],
 }
@@ -83,6 +90,7 @@ impl Machine {
             kept: 0,
             ahead: 0,
             edition,
+            lit: 0,
             later: [0; LATER.len()],
         }
     }
@@ -93,6 +101,7 @@ impl Machine {
             && self.stack[depth..].iter().all(|&entry| entry == 0)
             && self.wait.is_none_or(|key| key <= 15)
             && is_edition(self.edition)
+            && self.lit <= SPOTS
             && self.later == [0; LATER.len()]
     }
 
@@ -142,7 +151,7 @@ fn test_lists(first: &[u8], keys: &[u16], randoms: &[u8]) -> Result<(), Refusal>
     test(randoms.len() == first.len(), Refusal::Length)
 }
 
-fn test_state(machine: &Machine, history: &[u8]) -> Result<(), Refusal> {
+pub fn test_state(machine: &Machine, history: &[u8]) -> Result<(), Refusal> {
     let r = places(history);
     test(machine.is_sound(), Refusal::Unsound)?;
     test(usize::from(machine.next) < r, Refusal::Unsound)?;
@@ -334,6 +343,7 @@ pub fn step(machine: &mut Machine, lent: &mut Lent, keys: u16, random: u8) -> Re
     test_state(machine, lent.history)?;
     let instruction = instruction_at(machine.pc, lent.memory, machine.edition)?;
     test_possible(&instruction, machine)?;
+    let lit = lit_after(&instruction, machine, lent)?;
 
     let inputs = Inputs {
         keys,
@@ -342,6 +352,7 @@ pub fn step(machine: &mut Machine, lent: &mut Lent, keys: u16, random: u8) -> Re
     };
     write_record(machine, lent, old_bytes(&instruction, machine), inputs);
     machine.ahead = 0;
+    machine.lit = lit;
     Ok(execute(&instruction, machine, lent, keys, random))
 }
 
@@ -358,7 +369,7 @@ fn execute(
     let key_down = |key: u8| keys >> key & 1 == 1;
     let at_i = usize::from(old.i);
 
-    let mut went_dark = 0;
+    let went_dark = change_picture(instruction, &old, lent.memory, lent.picture);
     machine.pc = old.pc + 2;
     machine.wait = None;
     let mut skip_if = |condition: bool| {
@@ -368,7 +379,8 @@ fn execute(
     };
 
     match *instruction {
-        ClearPicture => lent.picture.fill(0),
+        // The picture is clear already.
+        ClearPicture => {}
         Return => {
             let last = usize::from(old.depth) - 1;
             machine.pc = old.stack[last];
@@ -452,15 +464,7 @@ fn execute(
             Some(held) => machine.v[x] = held,
         },
 
-        // Without a pattern no memory is read, wherever I stands.
-        Draw { n: 0, .. } => machine.v[0xF] = 0,
-        Draw { x, y, n } => {
-            let column = usize::from(old.v[x]) % COLUMNS;
-            let row = usize::from(old.v[y]) % ROWS;
-            let pattern = &lent.memory[at_i..at_i + n];
-            went_dark = draw(lent.picture, column, row, pattern);
-            machine.v[0xF] = u8::from(went_dark > 0);
-        }
+        Draw { .. } => machine.v[0xF] = u8::from(went_dark > 0),
 
         ExclusiveOr { x, y } => {
             machine.v[x] = old.v[x] ^ old.v[y];
@@ -480,6 +484,31 @@ fn execute(
         }
     }
     went_dark
+}
+
+/// What an instruction does to a picture; only 00E0 and a drawing change it.
+/// Answers how many lit spots a drawing darkened.
+fn change_picture(
+    instruction: &Instruction,
+    machine: &Machine,
+    memory: &[u8],
+    picture: &mut [u8],
+) -> u64 {
+    match *instruction {
+        ClearPicture => {
+            picture.fill(0);
+            0
+        }
+        // Without a pattern no memory is read, wherever I stands.
+        Draw { n: 0, .. } => 0,
+        Draw { x, y, n } => {
+            let column = usize::from(machine.v[x]) % COLUMNS;
+            let row = usize::from(machine.v[y]) % ROWS;
+            let at_i = usize::from(machine.i);
+            draw(picture, column, row, &memory[at_i..at_i + n])
+        }
+        _ => 0,
+    }
 }
 
 /// Turns over one spot for each 1 bit; spots past an edge are dropped.
@@ -508,6 +537,30 @@ fn turn_over(picture: &mut [u8], column: usize, row: usize) -> bool {
     let was_lit = *byte & spot != 0;
     *byte ^= spot;
     was_lit
+}
+
+// ---- The number of lit spots (Q-8) ----------------------------------------
+
+/// How many spots are lit in some bytes of a picture.
+pub fn lit_spots(bytes: &[u8]) -> u16 {
+    bytes.iter().map(|byte| byte.count_ones() as u16).sum()
+}
+
+/// The number with the lit spots of the bytes that change added, counted after
+/// less before; 10 if that is below 0 or above the number of all spots.
+fn counted(lit: u16, before: &[u8], after: &[u8]) -> Result<u16, Refusal> {
+    let sum = i32::from(lit) + i32::from(lit_spots(after)) - i32::from(lit_spots(before));
+    test((0..=i32::from(SPOTS)).contains(&sum), Refusal::Unsound)?;
+    Ok(sum as u16)
+}
+
+/// The number after a step. The step's change is made on a copy of the picture,
+/// so it is judged before anything is written.
+fn lit_after(instruction: &Instruction, machine: &Machine, lent: &Lent) -> Result<u16, Refusal> {
+    let changed = old_bytes(instruction, machine).of_picture();
+    let mut after = lent.picture.to_vec();
+    change_picture(instruction, machine, lent.memory, &mut after);
+    counted(machine.lit, &lent.picture[changed.clone()], &after[changed])
 }
 
 // ---- A tick, a run, a play ------------------------------------------------
@@ -634,6 +687,16 @@ const NOTHING: OldBytes = OldBytes {
     count: 0,
 };
 
+impl OldBytes {
+    /// Where they stand in the picture; nowhere for those of memory.
+    fn of_picture(&self) -> Range<usize> {
+        match &self.mark {
+            b"DI" => self.start..self.start + self.count,
+            _ => 0..0,
+        }
+    }
+}
+
 fn old_bytes(instruction: &Instruction, machine: &Machine) -> OldBytes {
     let memory = |count| OldBytes {
         mark: *b"ME",
@@ -728,6 +791,13 @@ pub fn back(machine: &mut Machine, lent: &mut Lent) -> Result<(), Refusal> {
     let place = PLACE * before_next;
     let record = lent.history[place..place + PLACE].to_vec();
     test(!is_damaged(&record, machine.depth), Refusal::DamagedRecord)?;
+    let start = usize::from(get(&record, 28));
+    let count = usize::from(get(&record, 30));
+    let old = &record[32..32 + count];
+    let lit = match &record[0..2] {
+        b"DI" => counted(machine.lit, &lent.picture[start..start + count], old)?,
+        _ => machine.lit,
+    };
 
     machine.v.copy_from_slice(&record[2..18]);
     machine.i = get(&record, 18);
@@ -744,12 +814,11 @@ pub fn back(machine: &mut Machine, lent: &mut Lent) -> Result<(), Refusal> {
         0xFF => None,
         key => Some(key),
     };
-    let start = usize::from(get(&record, 28));
-    let count = usize::from(get(&record, 30));
-    for offset in 0..count {
+    machine.lit = lit;
+    for (offset, byte) in old.iter().enumerate() {
         match &record[0..2] {
-            b"ME" => lent.memory[start + offset] = record[32 + offset],
-            _ => lent.picture[start + offset] = record[32 + offset],
+            b"ME" => lent.memory[start + offset] = *byte,
+            _ => lent.picture[start + offset] = *byte,
         }
     }
     machine.next = before_next as u16;
@@ -802,7 +871,7 @@ fn is_damaged(record: &[u8], present_depth: u8) -> bool {
 
 pub const IMAGE: usize = 64;
 /// Where the image holds nothing yet.
-pub const LATER: [usize; 9] = [53, 56, 57, 58, 59, 60, 61, 62, 63];
+pub const LATER: [usize; 7] = [53, 58, 59, 60, 61, 62, 63];
 
 impl Machine {
     pub fn from_image(image: &[u8]) -> Machine {
@@ -823,6 +892,7 @@ impl Machine {
         machine.next = get(image, 48);
         machine.kept = get(image, 50);
         machine.ahead = get(image, 54);
+        machine.lit = get(image, 56);
         machine.later = LATER.map(|at| image[at]);
         machine
     }
@@ -843,6 +913,7 @@ impl Machine {
         put(&mut image, 50, self.kept);
         image[52] = self.edition;
         put(&mut image, 54, self.ahead);
+        put(&mut image, 56, self.lit);
         for (at, byte) in LATER.iter().zip(self.later) {
             image[*at] = byte;
         }

@@ -14,34 +14,52 @@ const REFUSALS: usize = 13;
 #[derive(Default)]
 pub struct Tally {
     counts: [[u64; REFUSALS]; CALLS.len()],
+    /// How often a 10 was said of a change of the number of lit spots.
+    late: [u64; CALLS.len()],
 }
 
 impl Tally {
     pub fn count(&mut self, call: &Call, refusal: u32) {
-        let row = match call {
-            Call::Load { .. } => 0,
-            Call::Step { .. } => 1,
-            Call::Tick => 2,
-            Call::Back => 3,
-            Call::Forward => 4,
-            Call::Run { .. } => 5,
-            Call::Play { .. } => 6,
-            Call::Rows { .. } => 7,
-            Call::Bytes { .. } => 8,
-            Call::Write { .. } => return,
-        };
-        self.counts[row][refusal as usize] += 1;
+        self.counts[row(call)][refusal as usize] += 1;
+    }
+
+    /// Counts a 10 once more, as one that came after the other numbers.
+    pub fn count_late(&mut self, call: &Call) {
+        self.late[row(call)] += 1;
     }
 
     /// Whether a call of this name gave this number.
     pub fn has(&self, call: &str, refusal: usize) -> bool {
-        let row = CALLS.iter().position(|name| *name == call);
-        row.is_some_and(|row| self.counts[row][refusal] > 0)
+        named(call).is_some_and(|row| self.counts[row][refusal] > 0)
+    }
+
+    /// Whether a call of this name gave a late 10.
+    pub fn has_late(&self, call: &str) -> bool {
+        named(call).is_some_and(|row| self.late[row] > 0)
     }
 
     pub fn calls(&self) -> u64 {
         self.counts.iter().flatten().sum()
     }
+}
+
+fn row(call: &Call) -> usize {
+    match call {
+        Call::Load { .. } => 0,
+        Call::Step { .. } => 1,
+        Call::Tick => 2,
+        Call::Back => 3,
+        Call::Forward => 4,
+        Call::Run { .. } => 5,
+        Call::Play { .. } => 6,
+        Call::Rows { .. } => 7,
+        Call::Bytes { .. } => 8,
+        Call::Write { .. } => unreachable!("no call"),
+    }
+}
+
+fn named(call: &str) -> Option<usize> {
+    CALLS.iter().position(|name| *name == call)
 }
 
 impl fmt::Display for Tally {
@@ -51,14 +69,20 @@ impl fmt::Display for Tally {
             write!(f, "{call:>10}")?;
         }
         for refusal in 0..REFUSALS {
-            write!(f, "\n{refusal:>8}")?;
-            for row in &self.counts {
-                match row[refusal] {
-                    0 => write!(f, "{:>10}", "-")?,
-                    count => write!(f, "{count:>10}")?,
-                }
-            }
+            let counts = self.counts.map(|row| row[refusal]);
+            line(f, &refusal.to_string(), counts)?;
         }
-        Ok(())
+        line(f, "late 10", self.late)
     }
+}
+
+fn line(f: &mut fmt::Formatter, name: &str, counts: [u64; CALLS.len()]) -> fmt::Result {
+    write!(f, "\n{name:>8}")?;
+    for count in counts {
+        match count {
+            0 => write!(f, "{:>10}", "-")?,
+            _ => write!(f, "{count:>10}")?,
+        }
+    }
+    Ok(())
 }

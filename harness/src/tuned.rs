@@ -17,6 +17,8 @@ const LIST_MOST: usize = 4096;
 const PROGRAM_MOST: usize = 3584;
 const START: usize = 0x0200;
 const NO_KEY: u8 = 0xFF;
+/// The most spots that can be lit.
+const SPOTS: u64 = 2048;
 const FIRST_EDITION: u8 = 0;
 const SECOND_EDITION: u8 = 1;
 
@@ -126,6 +128,9 @@ struct Work {
     /// for it.
     ahead: usize,
     second_edition: bool,
+    /// The number of lit spots. Only steps and backs that change the picture touch
+    /// it.
+    lit: u64,
     /// Lit spots that the steps so far have darkened. Only a drawing adds to it,
     /// so other steps do no work for it.
     went_dark: u64,
@@ -151,12 +156,16 @@ impl Work {
         let kept = usize::from(number(image, 50));
         let edition = image[52];
         let ahead = usize::from(number(image, 54));
+        // One test is enough for the number and the six bytes after it, which come
+        // to stand above it.
+        let last = image.last_chunk().expect("64 bytes hold 8");
+        let lit = u64::from_be_bytes(*last).rotate_left(16);
         let sound = depth <= 12
             && entries_from(&stack, depth) == 0
             && (held <= 15 || held == NO_KEY)
             && edition <= SECOND_EDITION
             && image[53] == 0
-            && image[56..] == [0; 8]
+            && lit <= SPOTS
             && next < places
             && kept + ahead <= places;
         if !sound {
@@ -176,13 +185,15 @@ impl Work {
             kept,
             ahead,
             second_edition: edition == SECOND_EDITION,
+            lit,
             went_dark: 0,
             copied: 0,
         })
     }
 
     /// The edition stands in the image already, and the bytes for later use are 0,
-    /// or it had been refused.
+    /// or it had been refused. The last six of them are written with the number of
+    /// lit spots, as they are read with it.
     #[inline(always)]
     fn write(&self, image: &mut Image) {
         image[..16].copy_from_slice(&self.v.0.to_be_bytes());
@@ -203,6 +214,7 @@ impl Work {
         image[48..50].copy_from_slice(&(self.next as u16).to_be_bytes());
         image[50..52].copy_from_slice(&(self.kept as u16).to_be_bytes());
         image[54..56].copy_from_slice(&(self.ahead as u16).to_be_bytes());
+        image[56..].copy_from_slice(&(self.lit << 48).to_be_bytes());
     }
 
     /// The head of a record that keeps no old bytes.
@@ -284,6 +296,11 @@ impl Work {
         match word >> 12 {
             0x0 => match address {
                 0x0E0 => {
+                    let lit = self.lit.wrapping_sub(lit_spots(rows));
+                    if lit > SPOTS {
+                        return UNSOUND;
+                    }
+                    self.lit = lit;
                     head.mark(b"DI", 0, PICTURE);
                     self.copied += PICTURE as u64;
                     write_bytes(rows, self.place(places, &head));
@@ -370,10 +387,20 @@ impl Work {
                     let column = vx & 63;
                     let row = usize::from(vy & 31);
                     let shown = n.min(ROWS - row);
+                    let rows = &mut rows[row..row + shown];
+                    // A row turns at most eight spots, so a number far from its
+                    // ends stays between them. Near an end there is a look before
+                    // the writing.
+                    let most = 8 * shown as u64;
+                    if !(most..=SPOTS - most).contains(&self.lit) {
+                        let turned = turned_spots(memory, i, shown, column);
+                        if leaves_range(self.lit + turned, rows, pattern, column) {
+                            return UNSOUND;
+                        }
+                    }
                     head.mark(b"DI", 8 * row, 8 * shown);
                     self.copied += 8 * shown as u64;
                     let old = self.record(places, &head);
-                    let rows = &mut rows[row..row + shown];
                     let (pairs, single) = rows.as_chunks_mut::<2>();
                     let (patterns, last) = pattern[..shown].as_chunks::<2>();
                     let (kept, rest) = old.as_chunks_mut().0.split_at_mut(2 * pairs.len());
@@ -392,7 +419,12 @@ impl Work {
                         let one = draw_row(row, *byte, column, &mut rest[0]);
                         met = met >> 8 | u128::from(one) << 64;
                     }
-                    self.went_dark += u64::from(met.count_ones());
+                    // The two counts stand together, so that neither has to wait
+                    // for the other.
+                    let darkened = u64::from(met.count_ones());
+                    let turned = turned_spots(memory, i, shown, column);
+                    self.went_dark += darkened;
+                    self.lit = self.lit + turned - 2 * darkened;
                     self.v.set_flag(met != 0);
                     self.pc = pc;
                     self.held = NO_KEY;
@@ -504,7 +536,16 @@ impl Work {
                 memory[start..start + count].copy_from_slice(&record[32..32 + count]);
             }
             [b'D', b'I'] if (1..=256).contains(&count) && start + count <= PICTURE => {
-                put_back(rows, start, &record[32..32 + count]);
+                let mut after = *rows;
+                put_back(&mut after, start, &record[32..32 + count]);
+                let touched = start / 8..(start + count).div_ceil(8);
+                let put = self.lit + lit_spots(&after[touched.clone()]);
+                let lit = put.wrapping_sub(lit_spots(&rows[touched]));
+                if lit > SPOTS {
+                    return UNSOUND;
+                }
+                self.lit = lit;
+                *rows = after;
             }
             _ => return DAMAGED_RECORD,
         }
@@ -584,6 +625,46 @@ fn draw_row(row: &mut u64, byte: u8, column: u8, kept: &mut [u8; 8]) -> u64 {
     *kept = before.to_be_bytes();
     *row = before ^ bits >> column;
     before << column & bits
+}
+
+/// Sixteen bytes that let through what stands beside them, then sixteen that do
+/// not. So those from place 16 - k on let the first k of sixteen through.
+const THROUGH: &[u8] = [[0xFF; 16], [0; 16]].as_flattened();
+
+/// How many spots a drawing turns: the 1 bits of the rows that are shown, but for
+/// those past the right edge. Away from the end of memory sixteen bytes are taken
+/// at once.
+#[inline(always)]
+fn turned_spots(memory: &Memory, i: usize, shown: usize, column: u8) -> u64 {
+    let in_the_row = (0xFF_u64 << 56 >> column << column >> 56) as u8;
+    let mut turned = 0;
+    if let Some(pattern) = memory[i..].first_chunk::<16>() {
+        for (byte, through) in pattern.iter().zip(&THROUGH[16 - shown..]) {
+            turned += (byte & through & in_the_row).count_ones() as u8;
+        }
+    } else {
+        for byte in &memory[i..i + shown] {
+            turned += (byte & in_the_row).count_ones() as u8;
+        }
+    }
+    u64::from(turned)
+}
+
+/// Whether a drawing takes the number below 0 or above all spots, where the spots
+/// that turn are added to it already. So each that goes dark counts twice. Nothing
+/// is written.
+#[inline(always)]
+fn leaves_range(lit: u64, rows: &[u64], pattern: &[u8], column: u8) -> bool {
+    let mut darkened = 0;
+    for (row, byte) in rows.iter().zip(pattern) {
+        darkened += ((row << column >> 56) as u8 & byte).count_ones();
+    }
+    lit.wrapping_sub(2 * u64::from(darkened)) > SPOTS
+}
+
+#[inline(always)]
+fn lit_spots(rows: &[u64]) -> u64 {
+    rows.iter().map(|row| u64::from(row.count_ones())).sum()
 }
 
 #[inline(always)]

@@ -87,6 +87,7 @@ fn what_is_not_shown() {
         kept: 0xFFFF,
         ahead: 0xFFFF,
         edition: 1,
+        lit: 2048,
         ..fresh.clone()
     };
     assert_eq!(page_of(&fresh), page_of(&other));

@@ -19,6 +19,9 @@ const NUMBERS: [(&str, &[usize]); 9] = [
     ("bytes", &[0, 9]),
 ];
 
+/// The calls that a change of the number of lit spots can refuse by 10.
+const LATE: [&str; 5] = ["step", "back", "forward", "run", "play"];
+
 #[test]
 fn the_tuned_engine_equals_the_second_interpreter() {
     let random = Random::new(1978);
@@ -33,5 +36,8 @@ fn the_tuned_engine_equals_the_second_interpreter() {
         for number in numbers {
             assert!(tally.has(call, *number), "no {call} gave {number}");
         }
+    }
+    for call in LATE {
+        assert!(tally.has_late(call), "no {call} gave a late 10");
     }
 }

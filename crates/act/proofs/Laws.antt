@@ -1,16 +1,23 @@
--- What an instruction that is not refused has: room on the stack, an entry there, or its bytes in memory.
+-- What an instruction that is not refused has: room on the stack, an entry there, or its bytes in memory; a number of lit spots that stays in
+-- its range; and where it leaves the picture, the number that it leads to is the one that it had.
 use mathlib.Core.Path.{_≡_}
+use mathlib.Core.List.{List}
 use Prim.Native.Nat.{ℕ, _+_, _≤_, _<_}
 use native.Mathlib.Omega.{arith}
 use lib.Dec.{leb, ltb}
 use borrow.Author.Tests.{leb-true, ltb-true}
 use Rattle.rules.specs.declared.Machine.{Machine}
 use Rattle.rules.specs.declared.Op.{Op}
-use Rattle.rules.specs.declared.Op.the-variants.{Call, Return, Draw, Decimal, Store, Fetch}
+use Rattle.rules.specs.declared.Op.the-variants.{Call, Return, Clear, Draw, Decimal, Store, Fetch}
 use Rattle.rules.specs.State.{upTo}
-use Rattle.rules.specs.Step.{refusalOf, reach}
+use Rattle.rules.specs.Picture.{drawn}
+use Rattle.rules.specs.Memory.{part}
+use Rattle.rules.specs.Step.{refusalOf, litRefusal, after, pictureAfter, reach, column, row}
 use Rattle.rules.proofs.Choices.{passed}
+use Rattle.rules.proofs.Parts.{zeroes}
 use Rattle.rules.proofs.Follow.{past-fits}
+use Rattle.rules.proofs.Still.{after-lit, counted-same}
+use Rattle.act.specs.Became.{acted, Became}
 
 module _ (op : Op) (m : Machine) (allowed : refusalOf op m ≡ 0) where
   pub call-room : (a : ℕ) → op ≡ Call a → m .depth < 12
@@ -36,3 +43,19 @@ module _ (op : Op) (m : Machine) (allowed : refusalOf op m ≡ 0) where
   pub fetch-reach : (x : ℕ) → op ≡ Fetch x → m .i + upTo x ≤ 4096
   unfolding refusalOf
   fetch-reach x e = past-fits m (upTo x) (omega arith) (rw e at allowed)
+
+module _ (op : Op) (m : Machine) (mem pic : List ℕ) (passes : litRefusal (m .lit) pic (pictureAfter op m mem pic) ≡ 0) where
+  pub clear-passes : op ≡ Clear → litRefusal (m .lit) pic (zeroes 256) ≡ 0
+  unfolding after
+  clear-passes e = rw e at passes
+
+  pub draw-passes : (x y n : ℕ) → op ≡ Draw x y n → litRefusal (m .lit) pic (drawn (part mem (m .i) n) (column m x) (row m y) pic) ≡ 0
+  unfolding after
+  draw-passes x y n e = rw e at passes
+
+-- where the picture stays, so does the number
+pub still : (op : Op) (keys random : ℕ) (m : Machine) (mem pic : List ℕ) {m′ : Machine} {mem′ pic′ : List ℕ}
+    → (after op keys random m mem pic) .picture ≡ pic → Became (after op keys random m mem pic) m′ mem′ pic′
+    → Became (acted op keys random m mem pic) m′ mem′ pic′
+still op keys random m mem pic same b =
+    rw (counted-same (record { machine = m; memory = mem; picture = pic }) (after op keys random m mem pic) (after-lit op keys random m mem pic) same) b

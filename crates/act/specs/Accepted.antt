@@ -1,4 +1,5 @@
--- What the judgement leaves: an instruction that is not refused, beside buffers of the right sizes.
+-- What the judgement leaves: an instruction that is not refused, and a number of lit spots that stays in its range, beside buffers of the
+-- right sizes.
 use mathlib.Core.Path.{_≡_}
 use mathlib.Core.List.{List}
 use Prim.Native.Nat.{ℕ, _-_, _≤_}
@@ -6,11 +7,13 @@ use lib.ListN.{length}
 use Rattle.rules.specs.declared.Machine.{Machine}
 use Rattle.rules.specs.declared.Op.{Op}
 use Rattle.rules.specs.State.{memorySize, stackSize}
-use Rattle.rules.specs.Step.{refusalOf}
+use Rattle.rules.specs.Rows.{bytesOf}
+use Rattle.rules.specs.Step.{refusalOf, litRefusal, pictureAfter}
 
 pub record Accepted (op : Op) (m : Machine) (mem picture : List ℕ) : Type 0 where
   pub near : m .pc ≤ memorySize - 2
   pub shallow : m .depth ≤ stackSize
   pub allowed : refusalOf op m ≡ 0
+  pub passes : litRefusal (m .lit) (bytesOf picture) (pictureAfter op m mem (bytesOf picture)) ≡ 0
   pub memory : length mem ≡ memorySize
   pub rows : length picture ≡ 32

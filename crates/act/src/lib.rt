@@ -1,12 +1,11 @@
 // What an accepted instruction does. Nothing can fail here any more.
 ghost use mathlib.Core.Path.{_≡_};
 ghost use Prim.Native.Nat.{_*_, _≤_};
-ghost use Rattle.rules.specs.Step.{after};
 ghost use Rattle.rules.specs.Dark.{darkOf};
 ghost use Rattle.rules.specs.Rows.{bytesOf};
 ghost use Rattle.parts.specs.Whole.{whole};
 ghost use Rattle.act.specs.Accepted.{Accepted};
-ghost use Rattle.act.specs.Became.{Became};
+ghost use Rattle.act.specs.Became.{acted, Became};
 ghost use Rattle.act.specs.Drawn.{patternBytes};
 use parts::Core;
 use rules::Machine;
@@ -28,7 +27,7 @@ pub fn act(
 ) -> Acted
     requires { ⌜ Accepted op (whole c (now v) (now stack)) (now memory) (now rows) ⌝ }
     ensures { λ r. ⌜ Became
-        (after op keys random (whole c (now (v .entry)) (now (stack .entry))) (now (memory .entry)) (bytesOf (now (rows .entry))))
+        (acted op keys random (whole c (now (v .entry)) (now (stack .entry))) (now (memory .entry)) (bytesOf (now (rows .entry))))
         (whole (r .core) (now (v .exit)) (now (stack .exit))) (now (memory .exit)) (bytesOf (now (rows .exit))) ⌝ }
     ensures { λ r. ⌜ (r .dark ≡ darkOf op (whole c (now (v .entry)) (now (stack .entry))) (now (memory .entry)) (bytesOf (now (rows .entry))))
         × (r .dark ≤ 8 * patternBytes op) ⌝ }
@@ -38,10 +37,7 @@ pub fn act(
         Op::AwaitKey(x) => registers::awaited(x, keys, c, v),
         Op::Call(a) => registers::idle(registers::called(c, stack, a)),
         Op::Return => registers::idle(registers::returned(c, stack)),
-        Op::Clear => {
-            picture::clear(rows);
-            registers::idle(registers::onward(c))
-        }
+        Op::Clear => transfers::clear(c, rows),
         Op::Draw(x, y, n) => return draw(c, v, x, y, pattern(c.i, n, memory), rows),
         Op::Decimal(x) => transfers::decimal(c, v, x, memory),
         Op::Store(x) => transfers::store(c, v, x, memory),

@@ -80,7 +80,8 @@ fn stack_at(place: &[u8], stack: [u16; Machine::STACK]) -> [u16; Machine::STACK]
     cut(s, depth)
 }
 
-// The state before the action. Of the state after it only the edition and the stack below the last return address are used.
+// The state before the action, but for the number of lit spots. Of the state after it only that, the edition and the stack below the last
+// return address are used.
 fn machine_at(place: &[u8], m: Machine) -> Machine
     requires { ⌜ length (now place) ≡ placeSize ⌝ }
     requires { ⌜ byteAt (now place) atDepth ≤ stackSize ⌝ }
@@ -102,6 +103,7 @@ fn machine_at(place: &[u8], m: Machine) -> Machine
         },
         wait: wait_at(place),
         edition,
+        lit: m.lit,
     }
 }
 

@@ -29,9 +29,9 @@ pub struct Standing {
 // Whether the last bytes, which are kept for later, are 0.
 fn ends_clear(image: &[u8]) -> bool
     requires { ⌜ length (now image) ≡ imageSize ⌝ }
-    ensures { λ r. ⌜ r ≡ zeros (drop 56 (now (image .entry))) ⌝ }
+    ensures { λ r. ⌜ r ≡ zeros (drop 58 (now (image .entry))) ⌝ }
 {
-    let mut k = 56;
+    let mut k = 58;
     while k < IMAGE {
         if image[k] != 0 {
             return false;
@@ -124,6 +124,7 @@ fn machine_in(image: &[u8]) -> Machine
         timers,
         wait: wait_of(image[23]),
         edition: edition_of(image[52]),
+        lit: memory::word_at(image, 56),
     }
 }
 
@@ -185,8 +186,8 @@ fn tail_of(m: Machine, t: Trail) -> [u8; 12]
         0,
         memory::high(ahead),
         memory::low(ahead),
-        0,
-        0,
+        memory::high(m.lit),
+        memory::low(m.lit),
         0,
         0,
         0,
@@ -241,7 +242,7 @@ fn lay_numbers(image: &mut [u8], t: Trail)
     put_word(image, 50, (t.kept % 65536) as u16);
 }
 
-// The edition, ahead, and zeros to the end.
+// The edition, ahead, the number of lit spots, and zeros to the end.
 fn lay_tail(image: &mut [u8], m: Machine, t: Trail)
     requires { ⌜ length (now image) ≡ imageSize ⌝ }
     ensures { λ _. ⌜ Stands (tail m t) (now (image .entry)) 52 (now (image .exit)) 64 ⌝ }

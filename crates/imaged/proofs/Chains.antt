@@ -70,6 +70,7 @@ module _ (b : List ℕ) (size : length b ≡ 64) (small : Below 256 b) where
             (more (two 36) (more (two 38) (more (two 40) (more (two 42) (more (two 44) (more (two 46) none)))))))))));
         delay = byte 21;
         tone = byte 22;
+        lit = two 56;
       }
 
 -- a tick tests no memory and no picture
@@ -92,6 +93,7 @@ ticked-storable w t e =
         stack = t .stack;
         delay = omega (arith, t .delay);
         tone = omega (arith, t .tone);
+        lit = t .lit;
       };
       sound = both .0;
       next = omega (arith, next-below r (w .trail .next) (ltb-true _ _ (range .0)));

@@ -64,7 +64,8 @@ sound-order : (b : List ℕ) → sound (machineOf b) ≡ true → inOrder b ≡ 
 unfolding machineOf
 sound-order b e =
     let m = machineOf b in
-    let first = and-eq-true-iff (leb (m .depth) 12 && zeros (drop (m .depth) (m .stack))) (heldSound (m .wait)) .0 e in
+    let whole = and-eq-true-iff (leb (m .depth) 12 && zeros (drop (m .depth) (m .stack)) && heldSound (m .wait)) (leb (m .lit) 2048) .0 e in
+    let first = and-eq-true-iff (leb (m .depth) 12 && zeros (drop (m .depth) (m .stack))) (heldSound (m .wait)) .0 (whole .0) in
     order-depth (inOrder b) (byteAt b 20) (and-eq-true-iff (leb (m .depth) 12) (zeros (drop (m .depth) (m .stack))) .0 (first .0) .0)
 
 -- where its own tests admit it the image stands for a sound state, and where they do not the call hands back the world as it came: so what

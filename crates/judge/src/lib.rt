@@ -74,7 +74,7 @@ pub fn is_sound(m: Machine) -> bool
     }
     let stack = m.stack;
     let wait = m.wait;
-    clear_from(stack, depth) & held_sound(wait)
+    clear_from(stack, depth) & held_sound(wait) & (m.lit as usize <= Machine::SPOTS)
 }
 
 // Kept plus ahead is at most R: what is left beside the kept ones is at least what stands ahead, so that no sum can pass its type.

@@ -4,7 +4,6 @@ use mathlib.Core.List.{List}
 use Prim.Native.Nat.{ℕ, _+_, _*_, _≤_, _<_}
 use native.Mathlib.Omega.{arith}
 use lib.ListN.{length, getD}
-use lib.Dec.{leb}
 use borrow.Author.Tests.{le-leb, lt-leb, eq-eqb, ne-eqb}
 use Rattle.rules.specs.declared.Action.{Action}
 use Rattle.rules.specs.declared.Action.the-variants.{Step}
@@ -16,25 +15,26 @@ use Rattle.rules.specs.declared.Op.the-variants.{Unlisted, MachineCode}
 use Rattle.rules.specs.declared.Refusal.{Refusal}
 use Rattle.rules.specs.declared.Refusal.the-variants.{PcPastEnd}
 use Rattle.rules.specs.declared.Outcome.the-variants.{Done, Refused}
-use Rattle.rules.specs.Number.{unless}
+use Rattle.rules.specs.Number.{orLater}
 use Rattle.rules.specs.Refusal.{number}
 use Rattle.rules.specs.Memory.{over}
 use Rattle.rules.specs.Record.{old, count, recordWith, recordOf}
 use Rattle.rules.specs.Rows.{bytesOf}
-use Rattle.rules.specs.Step.{refusalOf, changeOf, after}
+use Rattle.rules.specs.Step.{refusalOf, litRefusal, changeOf, after, pictureAfter}
 use Rattle.rules.specs.World.{World, boardOf, places}
 use Rattle.rules.specs.Call.{opAt, step, stepped, stepRefusal, grown}
 use Rattle.rules.specs.Dark.{darkOf, stepDark}
 use Rattle.rules.specs.Copied.{stepCopied}
 use Rattle.rules.specs.Promise.{Gives}
 use Rattle.rules.proofs.Parts.{below-get}
-use Rattle.rules.proofs.Ready.{Ready, ready-fits, ready-soundly, stepped-follows}
+use Rattle.rules.proofs.Choices.{both-zero}
+use Rattle.rules.proofs.Ready.{Ready, step-own, stepped-follows}
 use Rattle.rules.proofs.Undo.{Fits}
 use Rattle.rules.proofs.Follow.{OpFits, decode-fits}
 use Rattle.rules.proofs.Copied.{table-counts, table-few}
 use Rattle.rules.proofs.Given.{Back, given-refused, answered-done, refused-some}
 use Rattle.act.specs.Accepted.{Accepted}
-use Rattle.act.specs.Became.{Became}
+use Rattle.act.specs.Became.{acted, Became}
 use Rattle.act.specs.Drawn.{patternBytes}
 use Rattle.keeping.specs.Writable.{blank, Reaches}
 use Rattle.keeping.proofs.Laid.{kept}
@@ -63,12 +63,12 @@ module _ (w : World) (h : Ready w) where
 
   -- ---- what is left of the judgement
 
-  left : stepRefusal w ≡ unless (leb (m .pc) 4094) 1 (refusalOf (opAt (boardOf w)) m)
-  unfolding stepRefusal
-  left = rw (ready-fits w h, ready-soundly w h)
+  -- an instruction's numbers, and after them the late 10
+  abbrev verdict : Op → ℕ
+  verdict op = orLater (refusalOf op m) (litRefusal (m .lit) (w .picture) (pictureAfter op m (w .memory) (w .picture)))
 
-  near-left : m .pc ≤ 4094 → stepRefusal w ≡ refusalOf (opAt (boardOf w)) m
-  near-left near = left ∙ rw (le-leb (m .pc) 4094 near)
+  near-left : m .pc ≤ 4094 → stepRefusal w ≡ verdict (opAt (boardOf w))
+  near-left near = step-own w h ∙ rw (le-leb (m .pc) 4094 near)
 
   -- a refused step darkens nothing, and copies nothing
   refused-dark : (r : Refusal) → number (Refused r) ≡ stepRefusal w → stepDark w ≡ 0
@@ -81,7 +81,7 @@ module _ (w : World) (h : Ready w) where
 
   module _ (past : 4094 < m .pc) where
     far-says : number (Refused PcPastEnd) ≡ stepRefusal w
-    far-says = sym (left ∙ rw (lt-leb (m .pc) 4094 past))
+    far-says = sym (step-own w h ∙ rw (lt-leb (m .pc) 4094 past))
 
     pub far : (keys random : ℕ) → Back (step keys random w) (Refused PcPastEnd) w
     unfolding step
@@ -93,9 +93,9 @@ module _ (w : World) (h : Ready w) where
     pub far-copied : stepCopied w ≡ 0
     far-copied = refused-copied PcPastEnd far-says
 
-  module _ (op : Op) (r : Refusal) (e : op ≡ opAt (boardOf w)) (near : m .pc ≤ 4094) (n : number (Refused r) ≡ refusalOf op m) where
+  module _ (op : Op) (r : Refusal) (e : op ≡ opAt (boardOf w)) (near : m .pc ≤ 4094) (n : number (Refused r) ≡ verdict op) where
     judged-says : number (Refused r) ≡ stepRefusal w
-    judged-says = n ∙ ap (λ (o : Op). refusalOf o m) e ∙ sym (near-left near)
+    judged-says = n ∙ ap verdict e ∙ sym (near-left near)
 
     pub judged-refused : (keys random : ℕ) → Back (step keys random w) (Refused r) w
     unfolding step
@@ -120,7 +120,7 @@ module _ (w : World) (h : Ready w) where
         range = record { next = h .next; kept = omega (arith, h .limit); few = omega (arith, h .most) };
       }
 
-  module _ (op : Op) (e : op ≡ opAt (boardOf w)) (near : m .pc ≤ 4094) (allowed : refusalOf op m ≡ 0) where
+  module _ (op : Op) (e : op ≡ opAt (boardOf w)) (near : m .pc ≤ 4094) (allowed : verdict op ≡ 0) where
     passes : stepRefusal w ≡ 0
     passes = near-left near ∙ rw e at allowed
 
@@ -138,12 +138,13 @@ module _ (w : World) (h : Ready w) where
     step-kept rows h₁ h₂ a sized =
         kept (w .history) h₁ h₂ (w .memory) rows (w .trail .next) m (changeOf op m) a (h .good .machine .v .size) place-inside (step-reaches rows sized)
 
-    pub accepted : (rows : List ℕ) → length rows ≡ 32 → Accepted op m (w .memory) rows
-    accepted rows sized =
+    pub accepted : (rows : List ℕ) → w .picture ≡ bytesOf rows → length rows ≡ 32 → Accepted op m (w .memory) rows
+    accepted rows is sized =
         record {
           near = near;
           shallow = h .good .machine .calls .most;
-          allowed = allowed;
+          allowed = both-zero (refusalOf op m) _ allowed .0;
+          passes = rw is at (both-zero (refusalOf op m) _ allowed .1);
           memory = h .good .memory .size;
           rows = sized;
         }
@@ -166,7 +167,7 @@ module _ (w : World) (h : Ready w) where
     -- ---- what they make together
 
     pub step-gives : (keys random : ℕ) (m′ : Machine) (t′ : Trail) (mem pic his : List ℕ)
-        → Became (after op keys random m (w .memory) (w .picture)) m′ mem pic
+        → Became (acted op keys random m (w .memory) (w .picture)) m′ mem pic
         → t′ ≡ grown (places (w .history)) (w .trail)
         → his ≡ over (w .history) (292 * w .trail .next) (recordOf (changeOf op m) (Step keys random) (boardOf w)) 292
         → Gives (step keys random w) Done m′ t′ mem pic his

@@ -74,7 +74,7 @@ pub fn step(
     }
     let edition = c.edition;
     let op = decode::decode(edition, memory[at], memory[at + 1]);
-    let outcome = verdict::judged(op, c);
+    let outcome = verdict::judged(op, c, v, memory, rows);
     let Outcome::Done = outcome else {
         return Stepped {
             outcome,

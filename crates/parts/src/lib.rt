@@ -22,6 +22,7 @@ pub struct Core {
     pub timers: Timers,
     pub wait: Wait,
     pub edition: Edition,
+    pub lit: u16,
 }
 
 pub fn core_of(m: Machine) -> Core
@@ -37,6 +38,7 @@ pub fn core_of(m: Machine) -> Core
         timers,
         wait,
         edition,
+        lit: m.lit,
     }
 }
 
@@ -55,6 +57,7 @@ pub fn whole(c: Core, v: [u8; 16], stack: [u16; Machine::STACK]) -> Machine
         timers,
         wait,
         edition,
+        lit: c.lit,
     }
 }
 

@@ -1,20 +1,22 @@
 -- The spots of a row under a pattern, as a byte; and the bytes of several rows, gathered in one number and counted at once.
-use mathlib.Core.Path.{_≡_, sym, ap, ap₂, _∙_}
+use mathlib.Core.Path.{_≡_, refl, sym, ap, ap₂, _∙_}
 use mathlib.Core.List.{List}
-use Prim.Native.Nat.{ℕ, _+_, _-_, _*_, _/_, _%_, _^_, _≤_, _<_}
-use native.Mathlib.Nat.{mod-lt, add-zero, mod-eq-of-lt, lt-of-le-of-lt, lt-of-lt-of-le}
+use Prim.Native.Nat.{ℕ, zero, suc, _+_, _-_, _*_, _/_, _%_, _^_, _≤_, _<_}
+use native.Mathlib.Nat.{mod-lt, add-zero, zero-add, add-suc, mod-eq-of-lt, lt-of-le-of-lt, lt-of-lt-of-le}
 use native.Mathlib.Decide.{decLe}
 use native.Mathlib.Omega.{arith}
-use native.Mathlib.Numerals.{add-one}
 use lib.ListN.{getD}
-use lib.Bits.{bitAnd, bitOr, and-comm, and-le-r, and-lt, and-mod, and-zero-r, and-block}
+use lib.Bits.{bitAnd, bitOr, and-comm, and-le-r, and-lt, and-mod, and-mask, and-zero-r, and-block}
 use lib.Count.{ones, ones-cat, ones-le}
+use lib.Dec.{lit<}
 use lib.Pow.{pow-pos, pow-mono, pow-add, split, field}
-use Rattle.picture.specs.Masks.{maskOf, maskAt, underOf, summed}
+use Rattle.rules.proofs.Drawn.{number}
 use Rattle.rules.proofs.Turning.{beside}
+use Rattle.picture.specs.Masks.{maskOf, maskAt, underOf, edgeOf, metAt, showsAt, summed, between}
 use Rattle.picture.proofs.Bits.{shl-less, shl-more}
-use Rattle.picture.proofs.Shown.{mask-in}
-use Rattle.picture.proofs.Sums.{ones-zero}
+use Rattle.picture.proofs.Shown.{mask-is}
+use Rattle.picture.proofs.Sums.{summed-same, ones-zero}
+use Rattle.picture.proofs.Counted.{mask-fits}
 
 -- ---- the byte under a pattern
 
@@ -46,39 +48,85 @@ under-meets a p column h =
         let e : 56 + (column - 56) ≡ column = omega arith in
         rw (and-comm (a * 2 ^ column / 2 ^ 56) p, and-comm a (maskOf p column)) (sym (rw e at (meets-less p a 56 (column - 56))))
 
--- in a row of the pattern, whose byte is p: its mask, and the lit spots that it meets
-module _ (pattern : List ℕ) (column row y p : ℕ) (h : row ≤ y) (is : p ≡ getD pattern (y - row) 0) where
-  pub mask-is : maskOf p column ≡ maskAt pattern column row y
-  mask-is = sym (mask-in pattern column row y h ∙ rw (← is))
+-- ---- the bytes of several rows in one number, the first one highest
 
-  pub met-byte : p < 256 → (a b : ℕ) → b ≡ underOf a column → ones (bitAnd b p) ≡ ones (bitAnd a (maskAt pattern column row y))
-  met-byte small a b e = rw e (under-meets a p column small ∙ ap (λ (m : ℕ). ones (bitAnd a m)) mask-is)
+-- what stands under the pattern in row y, and the pattern's byte there
+abbrev pub underAt : List ℕ → ℕ → ℕ → ℕ
+underAt rows column y = underOf (getD rows y 0) column
 
--- ---- the bytes of several rows, gathered in one number and counted at once
+abbrev pub bitsAt : List ℕ → ℕ → ℕ → ℕ
+bitsAt pattern row y = getD pattern (y - row) 0
 
--- d has a byte for each row from `from` on and above y, whose ones are as many as f says
-pub record Gathered (f : ℕ → ℕ) (from y d : ℕ) : Type 0 where
-  pub counted : summed f from + ones d ≡ summed f y
-  pub below : d < 2 ^ (8 * (y - from))
+-- d has a byte for each row from `from` on and above y
+abbrev pub Gathered : (ℕ → ℕ) → ℕ → ℕ → ℕ → Type 0
+Gathered f from y d = d ≡ number 256 (y - from) (λ k. f (from + k))
 
-module _ (f : ℕ → ℕ) (from : ℕ) where
-  pub nothing : Gathered f from from 0
-  nothing = record { counted = rw ones-zero (add-zero (summed f from)); below = pow-pos (8 * (from - from)) }
+number-small : (f : ℕ → ℕ) → ((k : ℕ) → f k < 256) → (n : ℕ) → number 256 n f < 2 ^ (8 * n)
+unfolding number
+number-small f small zero = lit< tt
+number-small f small (suc n) =
+    let wider : 2 ^ (8 * suc n) ≡ 2 ^ (8 * n) * 2 ^ 8 = ap (λ (i : ℕ). 2 ^ i) (omega arith) ∙ pow-add 2 (8 * n) 8 in
+    omega (arith, wider, number-small f small n, small n)
 
-  pub one-more : (y d b p : ℕ) → Gathered f from y d → from ≤ y → y < from + 8 → p < 256 → ones (bitAnd b p) ≡ f y
-      → Gathered f from (y + 1) (bitOr (d * 2 ^ 8 % 2 ^ 64) (bitAnd b p))
-  unfolding summed
-  one-more y d b p g h room small is =
-      let u = bitAnd b p in
-      let byte : u < 2 ^ 8 = lt-of-le-of-lt (and-le-r b p) small in
-      let fits : d < 2 ^ 56 = lt-of-lt-of-le (g .below) (pow-mono {i = 8 * (y - from)} {j = 56} (omega arith)) in
-      let sum = beside d u fits byte in
-      let wider : 8 * (y + 1 - from) ≡ 8 * (y - from) + 8 = omega arith in
-      record {
-        counted = rw (sum, add-one y, ones-cat 8 d u byte) (omega (arith, g .counted));
-        below = rw (sum, wider, pow-add 2 (8 * (y - from)) 8) (omega (arith, g .below));
-      }
+pub nothing : (f : ℕ → ℕ) (from : ℕ) → Gathered f from from 0
+unfolding number
+nothing f from = let none : from - from ≡ 0 = omega arith in rw none
 
-  -- eight spots a row at most
-  pub few : (y d : ℕ) → Gathered f from y d → ones d ≤ 8 * (y - from)
-  few y d g = ones-le (8 * (y - from)) d (g .below)
+pub one-more : (f : ℕ → ℕ) → ((k : ℕ) → f k < 256) → (from y d b : ℕ) → Gathered f from y d → from ≤ y → y < from + 8 → b ≡ f y
+    → Gathered f from (y + 1) (bitOr (d * 2 ^ 8 % 2 ^ 64) b)
+unfolding number
+one-more f small from y d b is h room e =
+    let last : y ≡ from + (y - from) = omega arith in
+    let wider : suc (y - from) ≡ y + 1 - from = omega arith in
+    let fits : d < 2 ^ 56 = lt-of-lt-of-le (rw is (number-small _ (λ k. small (from + k)) (y - from))) (pow-mono {i = 8 * (y - from)} {j = 56} (omega arith)) in
+    beside d b fits (rw e (small y)) ∙ ap₂ (λ (m n : ℕ). m * 256 + n) is (e ∙ ap f last) ∙ ap (λ (n : ℕ). number 256 n (λ k. f (from + k))) wider
+
+-- ---- and counted at once
+
+-- what two numbers have in common is what their bytes have, the last with the last
+common : (f g : ℕ → ℕ) → ((k : ℕ) → f k < 256) → ((k : ℕ) → g k < 256) → (d n : ℕ)
+    → ones (bitAnd (number 256 (d + n) f) (number 256 n g)) ≡ summed (λ k. ones (bitAnd (f (d + k)) (g k))) n
+unfolding number summed
+common f g sf sg d zero = rw (and-zero-r, ones-zero)
+common f g sf sg d (suc n) =
+    rw (add-suc d n)
+    (ones-block 8 (number 256 (d + n) f) (number 256 n g) (f (d + n)) (g n) (sf (d + n)) (sg n)
+    ∙ ap (λ (m : ℕ). m + ones (bitAnd (f (d + n)) (g n))) (common f g sf sg d n))
+
+eight-times : (s : ℕ) → number 256 8 (λ k. s) ≡ s * 0x0101_0101_0101_0101
+unfolding number
+eight-times s = omega arith
+
+pub under-small : (n column : ℕ) → underOf n column < 256
+under-small n column = omega arith
+
+module _ (pattern : List ℕ) (column row : ℕ) (small : (k : ℕ) → getD pattern k 0 < 256) where
+  -- in a row of the pattern
+  met-byte : (n y : ℕ) → row ≤ y → ones (bitAnd (underOf n column) (bitsAt pattern row y)) ≡ ones (bitAnd n (maskAt pattern column row y))
+  met-byte n y h = under-meets n (bitsAt pattern row y) column (small (y - row)) ∙ ap (λ (m : ℕ). ones (bitAnd n m)) (mask-is pattern column row y _ h refl)
+
+  shown-byte : (full y : ℕ) → full ≡ 2 ^ 64 - 1 → row ≤ y → ones (bitAnd (underOf full column) (bitsAt pattern row y)) ≡ showsAt pattern column row y
+  shown-byte full y e h =
+      let m = maskAt pattern column row y in
+      met-byte full y h ∙ ap ones (and-comm full m ∙ ap (bitAnd m) e ∙ and-mask m 64 ∙ mod-eq-of-lt (mask-fits pattern column row small y))
+
+  -- in those from `from` up to `to`
+  module _ (from to : ℕ) (h : row ≤ from) (b : ℕ) (bits : Gathered (bitsAt pattern row) from to b) where
+    pub all-met : (rows : List ℕ) (d : ℕ) → Gathered (underAt rows column) from to d → ones (bitAnd d b) ≡ between (metAt pattern column row rows) from to
+    all-met rows d stood =
+        ap₂ (λ (m n : ℕ). ones (bitAnd m n)) stood bits
+        ∙ simp zero-add at (common (λ k. underAt rows column (from + k)) (λ k. bitsAt pattern row (from + k)) (λ k. under-small _ column) (λ k. small _) 0 (to - from))
+        ∙ summed-same _ _ (to - from) (λ k l. met-byte (getD rows (from + k) 0) (from + k) (omega arith))
+
+    -- eight spots a row at most
+    pub all-shown : to ≤ from + 8 → let shown = ones (bitAnd (edgeOf column) b) in
+        (shown ≡ between (showsAt pattern column row) from to) × (shown ≤ 8 * (to - from))
+    all-shown room =
+        let n = to - from in
+        let s = underOf (2 ^ 64 - 1) column in
+        let all : 8 - n + n ≡ 8 = omega arith in (
+          ap₂ (λ (m b : ℕ). ones (bitAnd m b)) (sym (eight-times s)) bits
+              ∙ rw all at (common (λ k. s) (λ k. bitsAt pattern row (from + k)) (λ k. under-small (2 ^ 64 - 1) column) (λ k. small _) (8 - n) n)
+              ∙ summed-same _ _ n (λ k l. shown-byte (2 ^ 64 - 1) (from + k) refl (omega arith)),
+          ones-le (8 * n) (bitAnd (edgeOf column) b) (lt-of-le-of-lt (and-le-r (edgeOf column) b) (rw bits (number-small _ (λ k. small _) n))),
+        )

@@ -64,6 +64,9 @@ module _ (pattern : List ℕ) (column row : ℕ) where
   unfolding maskAt
   mask-in y h = rw (le-leb row y h)
 
+  pub mask-is : (y p : ℕ) → row ≤ y → p ≡ getD pattern (y - row) 0 → maskOf p column ≡ maskAt pattern column row y
+  mask-is y p h e = ap (λ (n : ℕ). maskOf n column) e ∙ sym (mask-in y h)
+
   pub mask-beneath : (y : ℕ) → row + length pattern ≤ y → maskAt pattern column row y ≡ 0
   mask-beneath y h = mask-in y (omega arith) ∙ rw (List·getD-eq-default pattern 0 {n = y - row} (omega arith), zero-div)
 

@@ -7,7 +7,7 @@ use native.Mathlib.Omega.{arith}
 use lib.Count.{ones, ones-step}
 use Rattle.rules.specs.Number.{bit}
 use Rattle.rules.specs.Picture.{sumFrom}
-use Rattle.picture.specs.Masks.{summed}
+use Rattle.picture.specs.Masks.{summed, between}
 use Rattle.picture.proofs.Bits.{bit-down}
 
 -- ---- sums
@@ -17,10 +17,18 @@ unfolding summed
 summed-same f g zero h = refl
 summed-same f g (suc n) h = ap₂ _+_ (summed-same f g n (λ k l. h k (omega arith))) (h n (omega arith))
 
-pub summed-add : (f : ℕ → ℕ) (m n : ℕ) → summed f (m + n) ≡ summed f m + summed (λ k. f (m + k)) n
+summed-add : (f : ℕ → ℕ) (m n : ℕ) → summed f (m + n) ≡ summed f m + summed (λ k. f (m + k)) n
 unfolding summed
 summed-add f m zero = rw (add-zero m) (sym (add-zero (summed f m)))
 summed-add f m (suc n) = rw (add-suc m n, summed-add f m n) (omega arith)
+
+-- a sum goes on, by terms that are its own from there on
+pub summed-on : (f g : ℕ → ℕ) (from to s d : ℕ) → from ≤ to → ((k : ℕ) → from ≤ k → g k ≡ f k) → s ≡ summed f from → d ≡ between g from to
+    → s + d ≡ summed f to
+summed-on f g from to s d h same is more =
+    let all : from + (to - from) ≡ to = omega arith in
+    let terms : between g from to ≡ between f from to = summed-same (λ k. g (from + k)) (λ k. f (from + k)) (to - from) (λ k l. same (from + k) (omega arith)) in
+    ap₂ _+_ is (more ∙ terms) ∙ sym (summed-add f from (to - from)) ∙ ap (summed f) all
 
 -- where nothing is added, the sum stays
 pub summed-skip : (f : ℕ → ℕ) (c e : ℕ) → c ≤ e → ((k : ℕ) → c ≤ k → k < e → f k ≡ 0) → summed f e ≡ summed f c
@@ -30,6 +38,10 @@ summed-skip f c =
     (λ e l go h. ap₂ _+_ (go (λ k a b. h k a (omega arith))) (h e l (omega arith)) ∙ add-zero (summed f c))
 
 -- ---- the spots of a picture
+
+pub sum-plus : (f g h : ℕ → ℕ → ℕ) → ((x y : ℕ) → f x y + g x y ≡ h x y) → (n s : ℕ) → sumFrom f n s + sumFrom g n s ≡ sumFrom h n s
+sum-plus f g h e zero s = refl
+sum-plus f g h e (suc n) s = omega (arith, sum-plus f g h e n (s + 1), e (s % 64) (s / 64))
 
 sum-last : (f : ℕ → ℕ → ℕ) (n s : ℕ) → sumFrom f (suc n) s ≡ sumFrom f n s + f ((s + n) % 64) ((s + n) / 64)
 sum-last f zero s = rw (add-zero s) (omega arith)

@@ -1,4 +1,4 @@
--- A pattern on rows: the mask that turns a row over, the lit spots that it meets, and the rows that are turned over so far.
+-- A pattern on rows: the mask that turns a row over, the spots that it meets and shows, and the rows that are turned over so far.
 use mathlib.Core.Path.{_≡_}
 use mathlib.Core.List.{List}
 use Prim.Native.Nat.{ℕ, zero, suc, _+_, _-_, _*_, _/_, _%_, _^_, _≤_, _<_}
@@ -20,17 +20,25 @@ maskAt pattern column row y = pick (leb row y) (maskOf (getD pattern (y - row) 0
 abbrev pub underOf : ℕ → ℕ → ℕ
 underOf n column = n * 2 ^ column % 2 ^ 64 / 2 ^ 56
 
+-- eight such bytes, with every spot that is not past the last column
+abbrev pub edgeOf : ℕ → ℕ
+edgeOf column = underOf (2 ^ 64 - 1) column * 0x0101_0101_0101_0101
+
 -- f 0 + f 1 and so on, n of them
 unfoldable pub summed : (ℕ → ℕ) → ℕ → ℕ
 summed f zero = 0
 summed f (suc n) = summed f n + f n
 
--- how many lit spots the pattern meets in row y, and in the first n rows
+-- f from + .. and so on, up to `to`
+abbrev pub between : (ℕ → ℕ) → ℕ → ℕ → ℕ
+between f from to = summed (λ k. f (from + k)) (to - from)
+
+-- how many lit spots the pattern meets in row y, and how many spots it shows there
 abbrev pub metAt : List ℕ → ℕ → ℕ → List ℕ → ℕ → ℕ
 metAt pattern column row rows y = ones (bitAnd (getD rows y 0) (maskAt pattern column row y))
 
-abbrev pub met : List ℕ → ℕ → ℕ → List ℕ → ℕ → ℕ
-met pattern column row rows = summed (metAt pattern column row rows)
+abbrev pub showsAt : List ℕ → ℕ → ℕ → ℕ → ℕ
+showsAt pattern column row y = ones (maskAt pattern column row y)
 
 -- the rows from `from` up to `to` are turned over by their masks, and the others stand
 pub record Turned (pattern : List ℕ) (column row from to : ℕ) (before after : List ℕ) : Type 0 where

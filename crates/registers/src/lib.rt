@@ -6,7 +6,7 @@ ghost use mathlib.Core.List.{List};
 ghost use Prim.Native.Nat.{ℕ, _≤_, _<_, _%_};
 ghost use lib.ListN.{getD};
 ghost use Rattle.rules.specs.Number.{pick};
-ghost use Rattle.rules.specs.State.{upTo, withReg, withI, withWait};
+ghost use Rattle.rules.specs.State.{upTo, withReg, withI, withWait, withLit};
 ghost use Rattle.rules.specs.Registers as state;
 ghost use Rattle.rules.specs.declared.Wait.the-variants.{Idle};
 ghost use Rattle.parts.specs.Whole.{whole};
@@ -93,6 +93,15 @@ pub fn point(c: Core, i: u16) -> Core
     c
 }
 
+// The number of lit spots is set.
+pub fn light(c: Core, lit: u16) -> Core
+    ensures { λ r. ⌜ ((v stack : List ℕ) → whole r v stack ≡ withLit lit (whole c v stack)) ⌝ }
+{
+    let mut c = c;
+    c.lit = lit;
+    c
+}
+
 // A field that is an enum is not stored to, so the core is written anew.
 fn with_wait(c: Core, w: Wait) -> Core
     ensures { λ r. ⌜ ((v stack : List ℕ) → whole r v stack ≡ withWait w (whole c v stack)) ⌝ }
@@ -106,6 +115,7 @@ fn with_wait(c: Core, w: Wait) -> Core
         timers,
         wait: w,
         edition,
+        lit: c.lit,
     }
 }
 

@@ -13,10 +13,10 @@ use Rattle.rules.specs.declared.Refusal.{Refusal}
 use Rattle.rules.specs.declared.Refusal.the-variants.{NothingKept, Damaged}
 use Rattle.rules.specs.declared.Outcome.the-variants.{Done, Refused}
 use Rattle.rules.specs.Number.{pick, unless}
-use Rattle.rules.specs.Record.{damaged, machineAt, changeAt, memoryAt, pictureAt}
+use Rattle.rules.specs.Record.{damaged, machineAt, changeAt, memoryAt, pictureAt, boardAt}
 use Rattle.rules.specs.Refusal.{number}
-use Rattle.rules.specs.World.{World, places, buffersFit, soundly}
-use Rattle.rules.specs.Call.{placeBefore, shrunk, lastRecord, back, backRefusal, undone}
+use Rattle.rules.specs.World.{World, boardOf, places, buffersFit, soundly}
+use Rattle.rules.specs.Call.{placeBefore, shrunk, lastRecord, back, backLate, backRefusal, undone}
 use Rattle.rules.specs.Promise.{Gives}
 use Rattle.rules.proofs.Ready.{Ready, ready-fits, ready-soundly}
 use Rattle.rules.proofs.Given.{Back, tests, refused-some, given-refused, answered-done, settled}
@@ -49,7 +49,7 @@ pub last-lent : (w : World) (p n : ℕ) → n ≡ places (w .history) → p ≡ 
 last-lent w p n e f = lent-part (292 * p) 292 (w .history) ∙ rw (f, e)
 
 module _ (w : World) (h : Ready w) where
-  left : backRefusal w ≡ unless (not (eqb (w .trail .kept) 0)) 7 (unless (not (damaged (lastRecord w) (w .machine .depth))) 11 0)
+  left : backRefusal w ≡ unless (not (eqb (w .trail .kept) 0)) 7 (unless (not (damaged (lastRecord w) (w .machine .depth))) 11 (backLate w))
   unfolding backRefusal
   left = rw (ready-fits w h, ready-soundly w h)
 
@@ -63,13 +63,18 @@ module _ (w : World) (h : Ready w) where
     is-damaged d =
         given-refused (backRefusal w) (undone (lastRecord w) w) w Damaged (sym (left ∙ rw (ne-eqb (w .trail .kept) 0 some, d)))
 
-    pub back-gives : damaged (lastRecord w) (w .machine .depth) ≡ false → (m′ : Machine) (t′ : Trail) (mem pic : List ℕ)
-        → m′ ≡ machineAt (lastRecord w) (w .machine)
+    pub is-late : damaged (lastRecord w) (w .machine .depth) ≡ false → (r : Refusal) → number (Refused r) ≡ backLate w → Back (back w) (Refused r) w
+    unfolding back
+    is-late d r e =
+        given-refused (backRefusal w) (undone (lastRecord w) w) w r (e ∙ sym (left ∙ rw (ne-eqb (w .trail .kept) 0 some, d)))
+
+    pub back-gives : damaged (lastRecord w) (w .machine .depth) ≡ false → backLate w ≡ 0 → (m′ : Machine) (t′ : Trail) (mem pic : List ℕ)
+        → m′ ≡ (boardAt (lastRecord w) (boardOf w)) .machine
         → t′ ≡ shrunk (places (w .history)) (w .trail)
         → mem ≡ memoryAt (changeAt (lastRecord w)) (lastRecord w) (w .memory)
         → pic ≡ pictureAt (changeAt (lastRecord w)) (lastRecord w) (w .picture)
         → Gives (back w) Done m′ t′ mem pic (w .history)
     unfolding back undone
-    back-gives d m′ t′ mem pic em et emem epic =
-        rw (answered-done (backRefusal w) (undone (lastRecord w) w) w (left ∙ rw (ne-eqb (w .trail .kept) 0 some, d)))
+    back-gives d late m′ t′ mem pic em et emem epic =
+        rw (answered-done (backRefusal w) (undone (lastRecord w) w) w (left ∙ rw (ne-eqb (w .trail .kept) 0 some, d) late))
         (record { says = refl; machine = em; trail = et; memory = emem; picture = epic; history = refl })

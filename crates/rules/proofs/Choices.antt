@@ -5,7 +5,7 @@ use Prim.Native.Nat.{ℕ, suc}
 use native.Mathlib.Omega.{arith}
 use lib.Dec.{eqb}
 use borrow.Author.Tests.{eqb-true, eqb-false}
-use Rattle.rules.specs.Number.{pick, unless}
+use Rattle.rules.specs.Number.{pick, unless, orLater}
 
 pub choice : {A : Type 0} (P : A → Type 0) (t : Bool) {p q : A} → P p → P q → P (pick t p q)
 choice P true a b = a
@@ -38,3 +38,9 @@ not-zero k e = omega arith
 pub passed : (t : Bool) (k x : ℕ) → unless t (suc k) x ≡ 0 → (t ≡ true) × (x ≡ 0)
 passed true k x e = (refl, e)
 passed false k x e = absurd (not-zero k e)
+
+pub both-zero : (x y : ℕ) → orLater x y ≡ 0 → (x ≡ 0) × (y ≡ 0)
+both-zero x y = by-test (λ (n : ℕ). n ≡ 0 → (x ≡ 0) × (y ≡ 0)) x 0 (λ z e. (z, e)) (λ ne e. absurd (ne e))
+
+pub no-later : (x y : ℕ) → y ≡ 0 → orLater x y ≡ x
+no-later x y e = by-test (λ (n : ℕ). n ≡ x) x 0 (λ z. omega arith) (λ ne. refl)

@@ -32,15 +32,16 @@ use Rattle.rules.specs.Instruction.{inSecond, decode}
 use Rattle.rules.specs.Registers.{simple, skipIf, skipUnless, flagged, awaited, called, returned, onward, down, lowestFrom}
 use Rattle.rules.specs.Picture.{drawn, darkened}
 use Rattle.rules.specs.Memory.{part, over, digitsOf}
-use Rattle.rules.specs.Step.{Board, refusalOf, changeOf, after, past, column, row, rowBytes}
-use Rattle.rules.proofs.Choices.{choice, not-zero, passed}
+use Rattle.rules.specs.Step.{Board, refusalOf, litRefusal, changeOf, counted, after, pictureAfter, past, column, row, rowBytes}
+use Rattle.rules.proofs.Choices.{choice, not-zero, passed, both-zero}
 use Rattle.rules.proofs.Parts.{zeroes, drop-zeros, over-take, over-drop, part-length}
 use Rattle.rules.proofs.Parts.{below-get, below-set, below-append, below-take, below-drop, below-zeros, bytes-over}
-use Rattle.rules.specs.Call.{lowered, tickBoard, opAt, boardBy, changeBy, ownRefusal}
+use Rattle.rules.specs.Call.{lowered, tickBoard, opAt, boardBy, changeBy, stepTests, stepLate, ownRefusal}
 use Rattle.rules.specs.Typed.{Below, none, more}
 use Rattle.rules.proofs.Good.{Bytes, GoodCalls, GoodTimers, GoodMachine, GoodBoard}
 use Rattle.rules.proofs.Drawn.{drawn-bytes, drawn-outside}
-use Rattle.rules.proofs.Undo.{Outside, Near, Undoable}
+use Rattle.rules.proofs.Undo.{Outside, Only, Near, Undoable}
+use Rattle.rules.proofs.Counted.{Recounts, still-recounts, counted-recounts, counted-good}
 
 -- ---- what the instructions hold
 
@@ -149,22 +150,22 @@ module _ {m n : Machine} (k : Reached m n) where
   g = k .good
 
   keep-v : (v : List ℕ) → Bytes 16 v → Reached m (withV v n)
-  keep-v v h = record { good = record { v = h; i = g .i; pc = g .pc; calls = g .calls; timers = g .timers; wait = g .wait }; near = k .near }
+  keep-v v h = record { good = record { v = h; i = g .i; pc = g .pc; calls = g .calls; timers = g .timers; wait = g .wait; lit = g .lit }; near = k .near }
 
   keep-i : (i : ℕ) → i < 65536 → Reached m (withI i n)
-  keep-i i h = record { good = record { v = g .v; i = h; pc = g .pc; calls = g .calls; timers = g .timers; wait = g .wait }; near = k .near }
+  keep-i i h = record { good = record { v = g .v; i = h; pc = g .pc; calls = g .calls; timers = g .timers; wait = g .wait; lit = g .lit }; near = k .near }
 
   keep-pc : (pc : ℕ) → pc < 65536 → Reached m (withPc pc n)
-  keep-pc pc h = record { good = record { v = g .v; i = g .i; pc = h; calls = g .calls; timers = g .timers; wait = g .wait }; near = k .near }
+  keep-pc pc h = record { good = record { v = g .v; i = g .i; pc = h; calls = g .calls; timers = g .timers; wait = g .wait; lit = g .lit }; near = k .near }
 
   keep-calls : (s : List ℕ) (d : ℕ) → GoodCalls s d → Near (m .stack) (m .depth) s d → Reached m (withStack s d n)
-  keep-calls s d h near = record { good = record { v = g .v; i = g .i; pc = g .pc; calls = h; timers = g .timers; wait = g .wait }; near = near }
+  keep-calls s d h near = record { good = record { v = g .v; i = g .i; pc = g .pc; calls = h; timers = g .timers; wait = g .wait; lit = g .lit }; near = near }
 
   keep-timers : (t : Timers) → GoodTimers t → Reached m (withTimers t n)
-  keep-timers t h = record { good = record { v = g .v; i = g .i; pc = g .pc; calls = g .calls; timers = h; wait = g .wait }; near = k .near }
+  keep-timers t h = record { good = record { v = g .v; i = g .i; pc = g .pc; calls = g .calls; timers = h; wait = g .wait; lit = g .lit }; near = k .near }
 
   keep-wait : (w : Wait) → heldSound w ≡ true → Reached m (withWait w n)
-  keep-wait w h = record { good = record { v = g .v; i = g .i; pc = g .pc; calls = g .calls; timers = g .timers; wait = h }; near = k .near }
+  keep-wait w h = record { good = record { v = g .v; i = g .i; pc = g .pc; calls = g .calls; timers = g .timers; wait = h; lit = g .lit }; near = k .near }
 
   keep-set : (i b : ℕ) → b < 256 → Reached m (withV (set (n .v) i b) n)
   keep-set i b h = keep-v _ (record { size = length-set (n .v) i b ∙ g .v .size; below = below-set (g .v .below) i b h })
@@ -338,6 +339,39 @@ pattern-length b zero g e = refl
 pattern-length b (suc n) g e =
     part-length (b .memory) (b .machine .i) (suc n) (omega (arith, past-fits (b .machine) (suc n) (omega arith) e, g .memory .size))
 
+-- the number of lit spots plays no part in what can be undone
+counted-only : (c : Change) (b d : Board) → Only c b d → Only c b (counted b d)
+counted-only Nothing b d o = o
+counted-only (InMemory s n) b d o = o
+counted-only (InPicture s n) b d o = o
+
+counted-follows : {c : Change} (b d : Board) → Follows c b d → litRefusal (b .machine .lit) (b .picture) (d .picture) ≡ 0
+    → Follows c b (counted b d)
+counted-follows {c} b d f e =
+    let u = f .undoable in
+    record { good = counted-good b d (f .good) e; undoable = record { fits = u .fits; only = counted-only c b d (u .only); near = u .near } }
+
+-- the inputs play no part in the picture
+pub picture-after : (op : Op) (keys random : ℕ) (m : Machine) (memory picture : List ℕ)
+    → pictureAfter op m memory picture ≡ (after op keys random m memory picture) .picture
+unfolding after
+picture-after (Plain s) keys random m memory picture = refl
+picture-after (AwaitKey x) keys random m memory picture = refl
+picture-after (Call a) keys random m memory picture = refl
+picture-after Return keys random m memory picture = refl
+picture-after Clear keys random m memory picture = refl
+picture-after (Draw x y n) keys random m memory picture = refl
+picture-after (Decimal x) keys random m memory picture = refl
+picture-after (Store x) keys random m memory picture = refl
+picture-after (Fetch x) keys random m memory picture = refl
+picture-after Unlisted keys random m memory picture = refl
+picture-after MachineCode keys random m memory picture = refl
+
+-- a step whose late 10 does not occur, whatever its inputs
+pub step-passes : (b : Board) (keys random : ℕ) → stepLate b ≡ 0
+    → litRefusal (b .machine .lit) (b .picture) ((after (opAt b) keys random (b .machine) (b .memory) (b .picture)) .picture) ≡ 0
+step-passes b keys random e = rw (picture-after (opAt b) keys random (b .machine) (b .memory) (b .picture)) at e
+
 module _ (b : Board) (g : GoodBoard b) where
   abbrev m : Machine
   m = b .machine
@@ -395,6 +429,15 @@ module _ (b : Board) (g : GoodBoard b) where
 
   pub action-follows : (a : Action) → ownRefusal a b ≡ 0 → Follows (changeBy a b) b (boardBy a b)
   action-follows (Step keys random) e =
-      let (near, ok) = passed (leb (m .pc) 4094) 0 _ e in
-      step-follows (opAt b) keys random (decode-fits _ _ _ (byte (m .pc)) (byte (m .pc + 1))) (leb-true (m .pc) 4094 near) ok
+      let (tests, late) = both-zero (stepTests b) (stepLate b) e in
+      let (near, ok) = passed (leb (m .pc) 4094) 0 _ tests in
+      counted-follows b (after (opAt b) keys random m (b .memory) (b .picture))
+      (step-follows (opAt b) keys random (decode-fits _ _ _ (byte (m .pc)) (byte (m .pc + 1))) (leb-true (m .pc) 4094 near) ok)
+      (step-passes b keys random late)
   action-follows Tick e = tick-follows
+
+  pub action-recounts : (a : Action) → ownRefusal a b ≡ 0 → Recounts b (boardBy a b)
+  action-recounts (Step keys random) e =
+      counted-recounts b (after (opAt b) keys random m (b .memory) (b .picture)) (g .machine .lit)
+      (step-passes b keys random (both-zero (stepTests b) (stepLate b) e .1))
+  action-recounts Tick e = still-recounts b (tickBoard b) (g .machine .lit) refl refl

@@ -6,7 +6,7 @@ use Prim.Native.Nat.{ℕ, _-_, _≤_, _<_}
 use lib.ListN.{drop, length, replicate}
 use Rattle.rules.specs.declared.Machine.{Machine}
 use Rattle.rules.specs.declared.Timers.{Timers}
-use Rattle.rules.specs.State.{memorySize, pictureSize, stackSize, heldSound}
+use Rattle.rules.specs.State.{memorySize, pictureSize, spotCount, stackSize, heldSound}
 use Rattle.rules.specs.Step.{Board}
 use Rattle.rules.specs.Typed.{Below}
 
@@ -31,6 +31,7 @@ pub record GoodMachine (m : Machine) : Type 0 where
   pub calls : GoodCalls (m .stack) (m .depth)
   pub timers : GoodTimers (m .timers)
   pub wait : heldSound (m .wait) ≡ true
+  pub lit : m .lit ≤ spotCount
 
 pub record GoodBoard (b : Board) : Type 0 where
   pub machine : GoodMachine (b .machine)

@@ -1,14 +1,16 @@
--- The laws of choices and lists, the laws of the definitions, and the proofs of what Rows, Editions, Twice, Copied and Past claim.
+-- The laws of choices and lists, the laws of the definitions, and the proofs of what Rows, Editions, Twice, Copied, Lit and Past claim.
 pub mod Choices
 pub mod Good
 pub mod Parts
 pub mod Laid
 pub mod Back
+pub mod Counted
 pub mod Undo
 pub mod Restored
 pub mod Drawn
 pub mod Turning
 pub mod Spots
+pub mod Balance
 pub mod Follow
 pub mod Still
 pub mod Link
@@ -18,6 +20,8 @@ pub mod Ready
 pub mod Each
 pub mod Editions
 pub mod Twice
+pub mod ByChange
+pub mod Lit
 pub mod Chain
 pub mod StepsBack
 pub mod Load
@@ -26,3 +30,4 @@ pub mod Given
 pub mod RunsPlay
 pub mod Copied
 pub mod Stays
+pub mod Ends

@@ -12,7 +12,7 @@ use Rattle.rules.specs.Typed.{TypedAction}
 use Rattle.rules.proofs.Good.{GoodBoard}
 use Rattle.rules.proofs.Back.{Reads}
 use Rattle.rules.proofs.Undo.{Restores, undo, written-reads}
-use Rattle.rules.proofs.Follow.{Follows, action-follows}
+use Rattle.rules.proofs.Follow.{Follows, action-follows, action-recounts}
 use Rattle.rules.proofs.Still.{action-chosen}
 
 pub record Link (r : List ℕ) (b b′ : Board) : Type 0 where
@@ -39,7 +39,7 @@ module _ {r : List ℕ} {b b′ : Board} (l : Link r b b′) where
   pub restores : Restores r b′ b
   restores =
       subst₂ (λ (q : List ℕ) (c : Board). Restores q c b) (sym (l .is)) (l .leads)
-      (undo _ a b _ (l .good) (follows .good) (follows .undoable) (action-chosen a b))
+      (undo _ a b _ (l .good) (follows .good) (follows .undoable) (action-chosen a b) (action-recounts b (l .good) a (l .accepted)))
 
   pub kind-known : kindSound r ≡ true
   kind-known = ap kindSound (l .is) ∙ reads .kind

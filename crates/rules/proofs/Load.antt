@@ -16,6 +16,7 @@ use Rattle.rules.specs.Past.{Start, LoadStarts}
 use Rattle.rules.proofs.Choices.{by-test, and-both, passed}
 use Rattle.rules.proofs.Parts.{zeroes, below-append, below-zeros}
 use Rattle.rules.proofs.Ready.{fits-passed}
+use Rattle.rules.proofs.Lit.{lit-none}
 
 allBelow : ℕ → List ℕ → Bool
 allBelow n [] = true
@@ -41,6 +42,7 @@ fresh-typed edition =
       stack = below-zeros 12 (omega arith);
       delay = omega arith;
       tone = omega arith;
+      lit = omega arith;
     }
 
 -- digits, zeros, the program and zeros fill the memory
@@ -65,6 +67,7 @@ loaded-starts edition program history h fits least most =
         next = rw long (omega arith);
         kept = refl;
         ahead = refl;
+        lit = rw lit-none;
       },
     )
 

@@ -8,12 +8,13 @@ use lib.Dec.{eqb, ltb, leb}
 use borrow.Author.Tests.{ltb-true, leb-true, eqb-true, eqb-false, not-true, le-leb, lt-ltb, eq-eqb}
 use Rattle.rules.specs.declared.Action.{Action}
 use Rattle.rules.specs.declared.Action.the-variants.{Step, Tick}
+use Rattle.rules.specs.Number.{unless}
 use Rattle.rules.specs.State.{sound}
 use Rattle.rules.specs.Record.{damaged, kindSound, actionAt}
 use Rattle.rules.specs.Step.{changeOf}
 use Rattle.rules.specs.World.{World, Answer, withAhead, boardOf, places, historyFits, buffersFit, trailFits, soundly}
 use Rattle.rules.specs.Call.{opAt, stepBoard, boardBy, changeBy, stepOwn, ownRefusal, nextPlace, recordBy, written, acted}
-use Rattle.rules.specs.Call.{stepRefusal, stepped, step, ticked, placeBefore, lastRecord, backRefusal, undone, back}
+use Rattle.rules.specs.Call.{stepRefusal, stepped, step, ticked, placeBefore, lastRecord, backLate, backRefusal, undone, back}
 use Rattle.rules.specs.Call.{nextRecord, forwardRefusal, redone, forward}
 use Rattle.rules.specs.Run.{tickedBy}
 use Rattle.rules.specs.Typed.{Below, TypedBoard}
@@ -21,8 +22,9 @@ use Rattle.rules.proofs.Choices.{by-test, and-both, passed}
 use Rattle.rules.proofs.Good.{Bytes, GoodBoard}
 use Rattle.rules.proofs.Parts.{over-length, part-length, below-take, below-drop}
 use Rattle.rules.proofs.Sound.{good-sound, sound-good}
-use Rattle.rules.proofs.Undo.{written-length, usable}
+use Rattle.rules.proofs.Undo.{written-length, Usable, usable}
 use Rattle.rules.proofs.Restored.{machine-good, memory-good, picture-good}
+use Rattle.rules.proofs.Counted.{counted-good}
 use Rattle.rules.proofs.Follow.{Follows, action-follows}
 
 pub record Ready (w : World) : Type 0 where
@@ -77,6 +79,56 @@ tests-ready w t fits s =
     let both = and-eq-true-iff (ltb (w .trail .next) (places (w .history))) most .0 (all .1) in
     start-ready w t fits (all .0) (ltb-true _ _ (both .0)) (leb-true _ _ (both .1))
 
+-- an accepted call passed them, and what came later
+pub record Accepted (w : World) (later : ℕ) : Type 0 where
+  pub fits : buffersFit w ≡ true
+  pub sound : soundly w ≡ true
+  pub rest : later ≡ 0
+
+pub accepted : (w : World) (later : ℕ) → unless (buffersFit w) 9 (unless (soundly w) 10 later) ≡ 0 → Accepted w later
+accepted w later e =
+    let first = passed (buffersFit w) 8 _ e in
+    let second = passed (soundly w) 9 later (first .1) in
+    record { fits = first .0; sound = second .0; rest = second .1 }
+
+pub accepted-ready : (w : World) {later : ℕ} → TypedBoard (boardOf w) → Accepted w later → Ready w
+accepted-ready w typed a = tests-ready w typed (a .fits) (a .sound)
+
+module _ (w : World) where
+  pub step-accepted : stepRefusal w ≡ 0 → Accepted w (stepOwn (boardOf w))
+  unfolding stepRefusal
+  step-accepted = accepted w _
+
+  -- what a step back and a step forward test after them
+  abbrev backTests : ℕ
+  backTests =
+      unless (not (eqb (w .trail .kept) 0)) 7 (unless (not (damaged (lastRecord w) (w .machine .depth))) 11 (backLate w))
+
+  abbrev forwardTests : ℕ
+  forwardTests =
+      unless (not (eqb (w .trail .ahead) 0)) 12 (unless (kindSound (nextRecord w)) 11 (ownRefusal (actionAt (nextRecord w)) (boardOf w)))
+
+  pub back-accepted : backRefusal w ≡ 0 → Accepted w backTests
+  unfolding backRefusal
+  back-accepted = accepted w _
+
+  pub forward-accepted : forwardRefusal w ≡ 0 → Accepted w forwardTests
+  unfolding forwardRefusal
+  forward-accepted = accepted w _
+
+  pub back-passed : backRefusal w ≡ 0
+      → (not (eqb (w .trail .kept) 0) ≡ true) × (not (damaged (lastRecord w) (w .machine .depth)) ≡ true) × (backLate w ≡ 0)
+  back-passed e =
+      let third = passed (not (eqb (w .trail .kept) 0)) 6 _ (back-accepted e .rest) in
+      let fourth = passed (not (damaged (lastRecord w) (w .machine .depth))) 10 _ (third .1) in
+      (third .0, fourth .0, fourth .1)
+
+  -- an accepted forward makes an action that is accepted
+  pub forward-own : forwardRefusal w ≡ 0 → ownRefusal (actionAt (nextRecord w)) (boardOf w) ≡ 0
+  forward-own e =
+      let third = passed (not (eqb (w .trail .ahead) 0)) 11 _ (forward-accepted e .rest) in
+      (passed (kindSound (nextRecord w)) 10 _ (third .1)) .1
+
 pub ready-fits : (w : World) → Ready w → buffersFit w ≡ true
 ready-fits w h =
     and-both (and-both (eq-eqb _ _ (h .good .memory .size)) (eq-eqb _ _ (h .good .picture .size)))
@@ -100,6 +152,7 @@ ready-typed w h =
         stack = m .calls .below;
         delay = m .timers .delay;
         tone = m .timers .tone;
+        lit = omega (arith, m .lit);
       };
       memory = h .good .memory .below;
       picture = h .good .picture .below;
@@ -165,30 +218,33 @@ pub before-below : (r n : ℕ) → n < r → placeBefore r n < r
 before-below r n h = by-test (λ (q : ℕ). q < r) n 0 (λ e. omega arith) (λ e. omega arith)
 
 module _ (w : World) (h : Ready w) where
-  back-passed : backRefusal w ≡ 0 → (not (eqb (w .trail .kept) 0) ≡ true) × (not (damaged (lastRecord w) (w .machine .depth)) ≡ true)
-  unfolding backRefusal
-  back-passed e =
-      let third = passed (not (eqb (w .trail .kept) 0)) 6 _ (rw (ready-fits w h, ready-soundly w h) at e) in
-      (third .0, (passed (not (damaged (lastRecord w) (w .machine .depth))) 10 0 (third .1)) .0)
+  -- the record that an accepted back reads
+  pub last-place : Below 256 (w .history) → Bytes 292 (lastRecord w)
+  last-place bytes =
+      let before = before-below (places (w .history)) (w .trail .next) (h .next) in
+      let at = 292 * placeBefore (places (w .history)) (w .trail .next) in
+      record { size = part-length (w .history) at 292 (omega arith); below = below-take (below-drop bytes at) 292 }
+
+  pub last-usable : backRefusal w ≡ 0 → Usable (lastRecord w)
+  last-usable e = usable (lastRecord w) (w .machine .depth) (not-true _ (back-passed w e .1))
 
   pub undone-ready : Below 256 (w .history) → backRefusal w ≡ 0 → Ready (undone (lastRecord w) w)
   unfolding undone
   undone-ready bytes e =
-      let before = before-below (places (w .history)) (w .trail .next) (h .next) in
-      let at = 292 * placeBefore (places (w .history)) (w .trail .next) in
-      let (kept, intact) = back-passed e in
-      let place : Bytes 292 (lastRecord w) =
-      record { size = part-length (w .history) at 292 (omega arith); below = below-take (below-drop bytes at) 292 } in
-      let fine = usable (lastRecord w) (w .machine .depth) (not-true _ intact) in
+      let (kept, intact, late) = back-passed w e in
+      let place = last-place bytes in
+      let fine = last-usable e in
       record {
-        good = record {
-          machine = machine-good (lastRecord w) place fine (w .machine) (h .good .machine);
-          memory = memory-good (lastRecord w) place fine (w .memory) (h .good .memory);
-          picture = picture-good (lastRecord w) place fine (w .picture) (h .good .picture);
-        };
+        good = counted-good (boardOf w) _
+            (record {
+              machine = machine-good (lastRecord w) place fine (w .machine) (h .good .machine);
+              memory = memory-good (lastRecord w) place fine (w .memory) (h .good .memory);
+              picture = picture-good (lastRecord w) place fine (w .picture) (h .good .picture);
+            })
+            late;
         least = h .least;
         most = h .most;
-        next = before;
+        next = before-below (places (w .history)) (w .trail .next) (h .next);
         limit = omega (arith, h .limit, eqb-false (w .trail .kept) 0 (not-true _ kept));
       }
 
@@ -196,16 +252,9 @@ module _ (w : World) (h : Ready w) where
   unfolding back
   back-ready bytes = by-test (λ (a : Answer). Ready (a .world)) (backRefusal w) 0 (undone-ready bytes) (λ e. h)
 
-  -- an accepted forward makes an action that is accepted
-  forward-own : forwardRefusal w ≡ 0 → ownRefusal (actionAt (nextRecord w)) (boardOf w) ≡ 0
-  unfolding forwardRefusal
-  forward-own e =
-      let third = passed (not (eqb (w .trail .ahead) 0)) 11 _ (rw (ready-fits w h, ready-soundly w h) at e) in
-      (passed (kindSound (nextRecord w)) 10 _ (third .1)) .1
-
   pub redone-ready : forwardRefusal w ≡ 0 → Ready (redone (actionAt (nextRecord w)) w)
   unfolding redone
-  redone-ready e = acted-ready w h (actionAt (nextRecord w)) (forward-own e) (w .trail .ahead - 1) (omega arith)
+  redone-ready e = acted-ready w h (actionAt (nextRecord w)) (forward-own w e) (w .trail .ahead - 1) (omega arith)
 
   pub forward-ready : Ready ((forward w) .world)
   unfolding forward

@@ -44,6 +44,7 @@ module _ (r : List ℕ) (place : Bytes 292 r) (u : Usable r) where
         calls = calls-good (m .stack) (m .depth) (g .calls);
         timers = record { delay = byte 25; tone = byte 26 };
         wait = u .held;
+        lit = g .lit;
       }
 
   memory-from : (c : Change) (l : List ℕ) → Fits c → Bytes 4096 l → Bytes 4096 (memoryAt c r l)

@@ -18,7 +18,10 @@ zeros-all zero = refl
 zeros-all (suc n) = zeros-all n
 
 pub good-sound : (m : Machine) → GoodMachine m → sound m ≡ true
-good-sound m g = and-both (and-both (le-leb (m .depth) 12 (g .calls .most)) (rw (g .calls .unused) (zeros-all (12 - m .depth)))) (g .wait)
+good-sound m g =
+    and-both
+    (and-both (and-both (le-leb (m .depth) 12 (g .calls .most)) (rw (g .calls .unused) (zeros-all (12 - m .depth)))) (g .wait))
+    (le-leb (m .lit) 2048 (g .lit))
 
 -- a list that is clear is as many zeros as it is long
 pub zeros-are : (l : List ℕ) → zeros l ≡ true → l ≡ zeroes (length l)
@@ -28,7 +31,8 @@ zeros-are (x ∷ xs) e = let s = and-eq-true-iff (eqb x 0) (zeros xs) .0 e in ap
 pub sound-good : (m : Machine) → TypedMachine m → sound m ≡ true → GoodMachine m
 sound-good m t e =
     let clear = zeros (drop (m .depth) (m .stack)) in
-    let all = and-eq-true-iff (leb (m .depth) 12 && clear) (heldSound (m .wait)) .0 e in
+    let whole = and-eq-true-iff (leb (m .depth) 12 && clear && heldSound (m .wait)) (leb (m .lit) 2048) .0 e in
+    let all = and-eq-true-iff (leb (m .depth) 12 && clear) (heldSound (m .wait)) .0 (whole .0) in
     let both = and-eq-true-iff (leb (m .depth) 12) clear .0 (all .0) in
     let left : length (drop (m .depth) (m .stack)) ≡ 12 - m .depth = simp (length-drop, t .entries) in
     let unused = zeros-are (drop (m .depth) (m .stack)) (both .1) ∙ ap zeroes left in
@@ -39,4 +43,5 @@ sound-good m t e =
       calls = record { size = t .entries; below = t .stack; most = leb-true (m .depth) 12 (both .0); unused = unused };
       timers = record { delay = t .delay; tone = t .tone };
       wait = all .1;
+      lit = leb-true (m .lit) 2048 (whole .1);
     }

@@ -37,7 +37,7 @@ module _ (w : World) (h : Lasting w) where
       below-over (h .bytes) (record-bytes (w .machine) c _ a (g .machine) (old-bytes c (g .memory .below) (g .picture .below)))
       (292 * w .trail .next) 292
 
-lasting : Lasts Lasting
+pub lasting : Lasts Lasting
 unfolding stepped ticked undone redone
 lasting =
     record {

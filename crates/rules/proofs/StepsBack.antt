@@ -23,7 +23,10 @@ use Rattle.rules.specs.Call.{forward, forwardRefusal, nextRecord, redone
 use Rattle.rules.specs.Run.{Move, aStep, aTick, aBack, aForward, made, playFrom, unrefused}
 use Rattle.rules.specs.Typed.{TypedBoard, TypedAction, TypedMove, TypedMoves}
 use Rattle.rules.specs.Past.{Past, added, movedDown, movedUp, noted, follow, first, Start, Told, StepsBack}
+use Rattle.rules.specs.Lit.{TrueLit}
 use Rattle.rules.proofs.Choices.{by-test}
+use Rattle.rules.proofs.Lit.{lit-lasts}
+use Rattle.rules.proofs.Each.{plays-last}
 use Rattle.rules.proofs.Good.{GoodBoard}
 use Rattle.rules.proofs.Parts.{part-over-same, put-back}
 use Rattle.rules.proofs.Undo.{Restores}
@@ -144,7 +147,7 @@ module _ (r : ℕ) (w : World) (p : Past) (hold : Holds r w p) where
       rw (ready-fits w ready, ready-soundly w ready)
       (refused-by (eqb (w .trail .kept) 0) 7 _ λ e.
       let (l, rest) = first-down (omega (arith, eqb-false (w .trail .kept) 0 e)) in
-      rw (hold .room, restores l .intact))
+      rw (hold .room, restores l .intact) (restores l .late))
 
   back-holds : backRefusal w ≡ 0 → Holds r (undone (lastRecord w) w) (movedDown p)
   unfolding undone
@@ -175,10 +178,10 @@ module _ (r : ℕ) (w : World) (p : Past) (hold : Holds r w p) where
 
       same : undone (lastRecord w) w ≡ standing lower t
       same = λ i. record {
-        machine = undoes .machine i;
+        machine = undoes .board i .machine;
         trail = record { next = placeBefore (hold .room i) n; kept = t .kept; ahead = t .ahead };
-        memory = undoes .memory i;
-        picture = undoes .picture i;
+        memory = undoes .board i .memory;
+        picture = undoes .board i .picture;
         history = h;
       }
 
@@ -258,11 +261,12 @@ module _ (r : ℕ) (w : World) (p : Past) (hold : Holds r w p) where
   move-holds aBack typed = settled (backRefusal w) (undone (lastRecord w) w) (noted r aBack p) back-holds
   move-holds aForward typed = settled (forwardRefusal w) (redone (actionAt (nextRecord w)) w) (noted r aForward p) forward-holds
 
-told : (r : ℕ) (w : World) (p : Past) → Holds r w p → Told r w p
+told : (r : ℕ) (w : World) (p : Past) → Holds r w p → TrueLit w → Told r w p
 unfolding back forward
-told r w p h =
+told r w p h t =
     record {
       finger = h .finger;
+      lit = t;
       kept = h .kept;
       ahead = h .ahead;
       above = h .above;
@@ -293,4 +297,4 @@ all-holds r (m ∷ ms) typed a p h = all-holds r ms (typed .1) (made m (a .world
 pub steps-back : StepsBack
 steps-back w t s moves typed =
     let r = places (w .history) in
-    told r _ _ (all-holds r moves typed (unrefused w) _ (start-holds w t s))
+    told r _ _ (all-holds r moves typed (unrefused w) _ (start-holds w t s)) (plays-last TrueLit lit-lasts moves (unrefused w) (s .lit))

@@ -16,17 +16,17 @@ use Rattle.rules.specs.Number.{pick}
 use Rattle.rules.specs.State.{reg}
 use Rattle.rules.specs.Picture.{spot, shown, bytesFrom, drawn, sumFrom, darkened, lightened, litSpots}
 use Rattle.rules.specs.Memory.{part}
-use Rattle.rules.specs.Step.{Board, column, row, after}
-use Rattle.rules.specs.World.{World, Answer, boardOf, buffersFit, soundly}
+use Rattle.rules.specs.Step.{Board, column, row, counted, after}
+use Rattle.rules.specs.World.{World, Answer, boardOf}
 use Rattle.rules.specs.Call.{step, stepRefusal, stepped}
 use Rattle.rules.specs.Typed.{TypedBoard}
 use Rattle.rules.specs.Twice.{Meets, MeetsLit, MeetsDark, Touches, PutBack, Draws, patternAt, At, Flags}
 use Rattle.rules.specs.Twice.{DrawnTwice, EitherOrder, DrawsTwice, DrawsAgain}
-use Rattle.rules.proofs.Choices.{by-test, passed}
+use Rattle.rules.proofs.Choices.{by-test}
 use Rattle.rules.proofs.Good.{Bytes}
 use Rattle.rules.proofs.Drawn.{shown-lit}
 use Rattle.rules.proofs.Spots.{spot-lit, by-spot, by-spots, drawn-spot, bytes-same, sum-same, whole, sum-is-some}
-use Rattle.rules.proofs.Ready.{Ready, tests-ready, ready-typed, step-ready}
+use Rattle.rules.proofs.Ready.{Ready, accepted-ready, step-accepted, ready-typed, step-ready}
 
 -- ---- a spot turned over twice
 
@@ -121,9 +121,9 @@ flag-above (suc d) v e iff =
     let one : v ≡ 1 = rw (lt-ltb 0 (suc d) (omega arith)) at e in
     ((λ o. iff .0 (omega arith), λ t. one), λ no. absurd (no (iff .0 (omega arith))))
 
-step-accepted : (keys random : ℕ) (w : World) → stepRefusal w ≡ 0 → (step keys random w) .world ≡ stepped keys random w
+step-world : (keys random : ℕ) (w : World) → stepRefusal w ≡ 0 → (step keys random w) .world ≡ stepped keys random w
 unfolding step
-step-accepted keys random w e =
+step-world keys random w e =
     by-test (λ (a : Answer). a .world ≡ stepped keys random w) (stepRefusal w) 0 (λ z. refl) (λ ne. absurd (ne e))
 
 module _ {x y n : ℕ} (w : World) (keys random : ℕ) (d : Draws x y n w) where
@@ -133,11 +133,11 @@ module _ {x y n : ℕ} (w : World) (keys random : ℕ) (d : Draws x y n w) where
   abbrev one : World
   one = (step keys random w) .world
 
-  drew : boardOf one ≡ after (Draw x y n) keys random m (w .memory) (w .picture)
+  drew : boardOf one ≡ counted (boardOf w) (after (Draw x y n) keys random m (w .memory) (w .picture))
   unfolding stepped
   drew =
-      ap boardOf (step-accepted keys random w (d .accepted))
-      ∙ ap (λ (op : Op). after op keys random m (w .memory) (w .picture)) (d .instruction)
+      ap boardOf (step-world keys random w (d .accepted))
+      ∙ ap (λ (op : Op). counted (boardOf w) (after op keys random m (w .memory) (w .picture))) (d .instruction)
 
   drew-picture : one .picture ≡ drawn (patternAt n w) (column m x) (row m y) (w .picture)
   unfolding after
@@ -162,10 +162,7 @@ module _ {x y n : ℕ} (w : World) (keys random : ℕ) (d : Draws x y n w) where
 
 -- an accepted one finds a world that passes the tests
 draws-ready : {x y n : ℕ} (w : World) → TypedBoard (boardOf w) → Draws x y n w → Ready w
-unfolding stepRefusal
-draws-ready w typed d =
-    let (fits, rest) = passed (buffersFit w) 8 _ (d .accepted) in
-    tests-ready w typed fits ((passed (soundly w) 9 _ rest) .0)
+draws-ready w typed d = accepted-ready w typed (step-accepted w (d .accepted))
 
 -- ---- two of them
 

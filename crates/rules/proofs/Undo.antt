@@ -18,12 +18,13 @@ use Rattle.rules.specs.Number.{pick}
 use Rattle.rules.specs.State.{chosen, heldSound}
 use Rattle.rules.specs.Memory.{part}
 use Rattle.rules.specs.Record.{start, count, allowed, old, heldByte, lastReturn, recordOf, byteAt, wordAt, stackAt, waitAt}
-use Rattle.rules.specs.Record.{known, changeSound, depthSound, keySound, kindSound, damaged, machineAt, memoryAt, pictureAt, changeAt}
-use Rattle.rules.specs.Step.{Board}
+use Rattle.rules.specs.Record.{known, changeSound, depthSound, keySound, kindSound, damaged, memoryAt, pictureAt, changeAt, boardAt}
+use Rattle.rules.specs.Step.{Board, litAfter, litRefusal}
 use Rattle.rules.proofs.Good.{GoodCalls, GoodBoard}
 use Rattle.rules.proofs.Choices.{and-both}
 use Rattle.rules.proofs.Parts.{zeroes, put-back, part-length}
 use Rattle.rules.proofs.Back.{Reads, reads, record-length}
+use Rattle.rules.proofs.Counted.{Recounts}
 
 -- ---- an action that can be undone
 
@@ -58,10 +59,9 @@ pub record Undoable (c : Change) (b b′ : Board) : Type 0 where
 
 -- the record r, beside the board b′, gives back b
 pub record Restores (r : List ℕ) (b′ b : Board) : Type 0 where
-  pub machine : machineAt r (b′ .machine) ≡ b .machine
-  pub memory : memoryAt (changeAt r) r (b′ .memory) ≡ b .memory
-  pub picture : pictureAt (changeAt r) r (b′ .picture) ≡ b .picture
+  pub board : boardAt r b′ ≡ b
   pub intact : damaged r (b′ .machine .depth) ≡ false
+  pub late : litRefusal (b′ .machine .lit) (b′ .picture) (pictureAt (changeAt r) r (b′ .picture)) ≡ 0
 
 -- ---- a change that fits
 
@@ -133,21 +133,25 @@ module _ (c : Change) (a : Action) (b : Board) (g : GoodBoard b) (fits : Fits c)
   written-reads = let (s, n) = fits-start c fits in reads (b .machine) c _ a (g .machine) s n (old-length c b g fits)
 
 pub undo : (c : Change) (a : Action) (b b′ : Board) → GoodBoard b → GoodBoard b′ → Undoable c b b′
-    → chosen (b′ .machine) ≡ chosen (b .machine) → Restores (recordOf c a b) b′ b
-undo c a b b′ g g′ u kept =
+    → chosen (b′ .machine) ≡ chosen (b .machine) → Recounts b b′ → Restores (recordOf c a b) b′ b
+undo c a b b′ g g′ u kept n =
     record {
-      machine = λ i. record {
-        v = read .v i;
-        i = read .i i;
-        pc = read .pc i;
-        stack = stack i;
-        depth = read .depth i;
-        timers = record { delay = read .delay i; tone = read .tone i };
-        wait = wait i;
-        edition = kept i .edition;
+      board = λ i. record {
+        machine = record {
+          v = read .v i;
+          i = read .i i;
+          pc = read .pc i;
+          stack = stack i;
+          depth = read .depth i;
+          timers = record { delay = read .delay i; tone = read .tone i };
+          wait = wait i;
+          edition = kept i .edition;
+          lit = lit i;
+        };
+        memory = memory i;
+        picture = picture i;
       };
-      memory = rw (read .change) (memory-back r c b b′ (u .only) (read .bytes));
-      picture = rw (read .change) (picture-back r c b b′ (u .only) (read .bytes));
+      late = rw picture (n .late);
       intact = ap not
           (and-both (and-both (and-both change-sound depth-sound) (rw (read .held) (key-sound (m .wait) (g .machine .wait)))) (read .kind));
     }
@@ -160,6 +164,15 @@ undo c a b b′ g g′ u kept =
 
     read : Reads r m c (old c (b .memory) (b .picture)) a
     read = written-reads c a b g (u .fits)
+
+    memory : memoryAt (changeAt r) r (b′ .memory) ≡ b .memory
+    memory = rw (read .change) (memory-back r c b b′ (u .only) (read .bytes))
+
+    picture : pictureAt (changeAt r) r (b′ .picture) ≡ b .picture
+    picture = rw (read .change) (picture-back r c b b′ (u .only) (read .bytes))
+
+    lit : litAfter (b′ .machine .lit) (b′ .picture) (pictureAt (changeAt r) r (b′ .picture)) ≡ b .machine .lit
+    lit = rw picture (n .lit)
 
     stack : stackAt r (b′ .machine .stack) ≡ m .stack
     stack = rw (read .depth, read .last)

@@ -8,9 +8,10 @@ use Rattle.rules.specs.declared.Edition.the-variants.{First}
 use Rattle.rules.specs.Number.{same}
 use Rattle.rules.specs.State.{memorySize, pictureSize, startAddress, fresh, reg}
 use Rattle.rules.specs.Instruction.{decode}
+use Rattle.rules.specs.Picture.{litFirst, litSpots}
 use Rattle.rules.specs.Memory.{part, over}
 use Rattle.rules.specs.Record.{placeSize, atKeys, recordWith}
-use Rattle.rules.specs.Step.{refusalOf, changeOf, after}
+use Rattle.rules.specs.Step.{refusalOf, litAfter, litRefusal, changeOf, after}
 use Rattle.rules.specs.World.{World, world}
 use Rattle.rules.specs.Load.{freshTrail}
 use Rattle.rules.specs.Call.{step, stepRefusal, stepped, tick, tickRefusal, ticked, back, backRefusal, undone}
@@ -77,5 +78,5 @@ each (walk r rows ends ∷ ws) = goes rows ends (start r) && each ws
 -- ---- THE WALKS GO SO
 
 gone : T (each walks)
-unfolding walks decode recordWith refusalOf changeOf after step stepRefusal stepped tick tickRefusal ticked back backRefusal undone forward forwardRefusal redone
+unfolding walks decode recordWith litFirst litSpots refusalOf litAfter litRefusal changeOf after step stepRefusal stepped tick tickRefusal ticked back backRefusal undone forward forwardRefusal redone
 gone = tt

@@ -12,13 +12,13 @@ use Rattle.rules.specs.declared.Op.{Op}
 use Rattle.rules.specs.declared.Change.{Change}
 use Rattle.rules.specs.declared.Change.the-variants.{Nothing}
 use Rattle.rules.specs.declared.Refusal.the-variants.{PcPastEnd, NothingKept, BufferLength, Unsound, Damaged, NothingAhead}
-use Rattle.rules.specs.Number.{pick, unless}
+use Rattle.rules.specs.Number.{pick, unless, orLater}
 use Rattle.rules.specs.Refusal.{numberOf}
 use Rattle.rules.specs.State.{memorySize, withTimers}
 use Rattle.rules.specs.Instruction.{decode}
 use Rattle.rules.specs.Memory.{part, over}
-use Rattle.rules.specs.Step.{Board, refusalOf, changeOf, after}
-use Rattle.rules.specs.Record.{placeSize, recordOf, damaged, kindSound, actionAt, machineAt, memoryAt, pictureAt, changeAt}
+use Rattle.rules.specs.Step.{Board, refusalOf, litRefusal, changeOf, counted, after, pictureAfter}
+use Rattle.rules.specs.Record.{placeSize, recordOf, damaged, kindSound, actionAt, pictureAt, changeAt, boardAt}
 use Rattle.rules.specs.World.{World, Answer, world, withAhead, boardOf, places, historyFits, buffersFit, soundly, answered}
 
 -- ---- an action, a step or a tick
@@ -27,8 +27,9 @@ use Rattle.rules.specs.World.{World, Answer, world, withAhead, boardOf, 
 abbrev pub opAt : Board → Op
 opAt b = decode (b .machine .edition) (getD (b .memory) (b .machine .pc) 0) (getD (b .memory) (b .machine .pc + 1) 0)
 
+-- what stands after it, with its number of lit spots
 abbrev pub stepBoard : ℕ → ℕ → Board → Board
-stepBoard keys random b = after (opAt b) keys random (b .machine) (b .memory) (b .picture)
+stepBoard keys random b = counted b (after (opAt b) keys random (b .machine) (b .memory) (b .picture))
 
 -- each timer that is not 0 falls by one; 0 - 1 is 0
 abbrev pub lowered : Timers → Timers
@@ -47,9 +48,17 @@ abbrev pub changeBy : Action → Board → Change
 changeBy (Step keys random) b = changeOf (opAt b) (b .machine)
 changeBy Tick b = Nothing
 
--- a step's own numbers: 1, then 2 or 3, then 4, 5 or 6
+-- 1, then 2 or 3, then 4, 5 or 6
+abbrev pub stepTests : Board → ℕ
+stepTests b = unless (leb (b .machine .pc) (memorySize - 2)) (numberOf PcPastEnd) (refusalOf (opAt b) (b .machine))
+
+-- 10 where the step would take the number of lit spots out of its range
+abbrev pub stepLate : Board → ℕ
+stepLate b = litRefusal (b .machine .lit) (b .picture) (pictureAfter (opAt b) (b .machine) (b .memory) (b .picture))
+
+-- a step's own numbers: those two, in this order
 abbrev pub stepOwn : Board → ℕ
-stepOwn b = unless (leb (b .machine .pc) (memorySize - 2)) (numberOf PcPastEnd) (refusalOf (opAt b) (b .machine))
+stepOwn b = orLater (stepTests b) (stepLate b)
 
 -- where it is refused by numbers of its own; a tick has none
 abbrev pub ownRefusal : Action → Board → ℕ
@@ -123,20 +132,24 @@ shrunk r t = record { next = placeBefore r (t .next); kept = t .kept - 1; ahead 
 abbrev pub lastRecord : World → List ℕ
 lastRecord w = part (w .history) (placeSize * placeBefore (places (w .history)) (w .trail .next)) placeSize
 
--- 9, 10, 7, 11
+-- 10 where the step back would take the number of lit spots out of its range
+abbrev pub backLate : World → ℕ
+backLate w = let r = lastRecord w in litRefusal (w .machine .lit) (w .picture) (pictureAt (changeAt r) r (w .picture))
+
+-- 9, 10, 7, 11, then that 10
 unfoldable pub backRefusal : World → ℕ
 backRefusal w =
     unless (buffersFit w) (numberOf BufferLength)
     (unless (soundly w) (numberOf Unsound)
     (unless (not (eqb (w .trail .kept) 0)) (numberOf NothingKept)
     (unless (not (damaged (lastRecord w) (w .machine .depth))) (numberOf Damaged)
-    0)))
+    (backLate w))))
 
 -- everything as the record has it; the history keeps its bytes
 unfoldable pub undone : List ℕ → World → World
 undone r w =
-    world (machineAt r (w .machine)) (shrunk (places (w .history)) (w .trail)) (memoryAt (changeAt r) r (w .memory))
-    (pictureAt (changeAt r) r (w .picture)) (w .history)
+    let b = boardAt r (boardOf w) in
+    world (b .machine) (shrunk (places (w .history)) (w .trail)) (b .memory) (b .picture) (w .history)
 
 unfoldable pub back : World → Answer
 back w = answered (backRefusal w) (undone (lastRecord w) w) w

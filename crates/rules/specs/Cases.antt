@@ -1,5 +1,5 @@
--- The worked cases of document 01 that are marked P, and those of the requests Q-1, Q-5 and Q-9: a table, and one statement that each of
--- them holds.
+-- The worked cases of document 01 that are marked P, and those of the requests Q-1, Q-5, Q-8 and Q-9: a table, and one statement that each
+-- of them holds.
 use mathlib.Core.Bool.{Bool, true, false, _&&_}
 use mathlib.Core.List.{List, [], _∷_, _++_}
 use Prim.Native.Nat.{ℕ, _-_}
@@ -9,23 +9,24 @@ use Rattle.rules.specs.declared.Edition.{Edition}
 use Rattle.rules.specs.declared.Edition.the-variants.{First, Second}
 use Rattle.rules.specs.declared.Machine.{Machine}
 use Rattle.rules.specs.Number.{word, same}
-use Rattle.rules.specs.State.{memorySize, pictureSize, startAddress, fresh, reg, withReg, withI}
+use Rattle.rules.specs.State.{memorySize, pictureSize, startAddress, fresh, reg, withReg, withI, withLit}
 use Rattle.rules.specs.Instruction.{decode}
-use Rattle.rules.specs.Picture.{drawn, darkened}
+use Rattle.rules.specs.Picture.{drawn, darkened, litFirst, litSpots}
 use Rattle.rules.specs.Memory.{part, over}
 use Rattle.rules.specs.Record.{placeSize, recordWith}
-use Rattle.rules.specs.Step.{Board, refusalOf, changeOf, after}
+use Rattle.rules.specs.Step.{Board, refusalOf, litAfter, litRefusal, changeOf, after}
 use Rattle.rules.specs.World.{World, world, boardOf}
 use Rattle.rules.specs.Load.{freshTrail}
 use Rattle.rules.specs.Call.{step, stepRefusal, stepped}
 
--- a fact of a board: VX is a byte, I is an address, memory has bytes from an address on, the picture is those bytes, the edition is
--- the second
+-- a fact of a board: VX is a byte, I is an address, memory has bytes from an address on, the picture is those bytes, the number of lit
+-- spots is that, the edition is the second
 data Fact : Type 0 where
   v : ℕ → ℕ → Fact
   i : ℕ → Fact
   bytes : ℕ → List ℕ → Fact
   shows : List ℕ → Fact
+  lit : ℕ → Fact
   second : Fact
 
 -- a step: the instruction, the refusal or 0, what holds before it, and what holds after it; or two accepted steps of an instruction that
@@ -60,7 +61,7 @@ table =
     ∷ case 0xF155 0 (i 0x0FFE ∷ []) (i 0x1000 ∷ [])
     ∷ case 0xF155 6 (i 0x0FFF ∷ []) []
     ∷ case 0xD012 0 (v 0x0 0x3F ∷ v 0x1 0x1F ∷ v 0xF 0x07 ∷ i 0x0300 ∷ bytes 0x0300 (0xFF ∷ 0xFF ∷ []) ∷ [])
-    (shows (darkTo 0x01) ∷ v 0xF 0x00 ∷ [])
+    (shows (darkTo 0x01) ∷ v 0xF 0x00 ∷ lit 1 ∷ [])
     -- the second edition's four: with a flag before them, with X = F, with X = Y
     ∷ case 0x8013 0 (second ∷ v 0x0 0xF0 ∷ v 0x1 0x3C ∷ v 0xF 0x07 ∷ []) (v 0x0 0xCC ∷ v 0x1 0x3C ∷ v 0xF 0x00 ∷ second ∷ [])
     ∷ case 0x8F13 0 (second ∷ v 0xF 0xF0 ∷ v 0x1 0x3C ∷ []) (v 0xF 0x00 ∷ [])
@@ -87,9 +88,23 @@ table =
     ∷ case 0x8016 2 (v 0x1 0x01 ∷ []) (v 0x1 0x01 ∷ [])
     ∷ case 0x8017 2 (v 0x1 0x06 ∷ []) (v 0x1 0x06 ∷ [])
     ∷ case 0x801E 2 (v 0x1 0x80 ∷ []) (v 0x1 0x80 ∷ [])
+    -- a drawing that lights, one that darkens, one at the right edge, and 00E0
+    ∷ case 0xD011 0 (i 0x0300 ∷ bytes 0x0300 (0xF1 ∷ []) ∷ []) (shows (begins (0xF1 ∷ [])) ∷ lit 5 ∷ [])
+    ∷ case 0xD011 0 (shows (begins (0xF0 ∷ [])) ∷ i 0x0300 ∷ bytes 0x0300 (0x70 ∷ []) ∷ []) (shows (begins (0x80 ∷ [])) ∷ lit 1 ∷ [])
+    ∷ case 0xD011 0 (v 0x0 0x3C ∷ i 0x0300 ∷ bytes 0x0300 (0xFF ∷ []) ∷ []) (lit 4 ∷ [])
+    ∷ case 0x00E0 0 (shows (begins (0xF1 ∷ [])) ∷ []) (shows (begins []) ∷ lit 0 ∷ [])
+    -- a number that is not true: it may reach 0 and 2,048, and what would pass them is refused, after 6, and changes nothing
+    ∷ case 0xD011 0 (shows (begins (0xF0 ∷ [])) ∷ lit 3 ∷ i 0x0300 ∷ bytes 0x0300 (0x70 ∷ []) ∷ []) (shows (begins (0x80 ∷ [])) ∷ lit 0 ∷ [])
+    ∷ case 0xD011 10 (shows (begins (0xF0 ∷ [])) ∷ lit 2 ∷ i 0x0300 ∷ bytes 0x0300 (0x70 ∷ []) ∷ []) (shows (begins (0xF0 ∷ [])) ∷ lit 2 ∷ [])
+    ∷ case 0xD011 0 (lit 2047 ∷ i 0x0300 ∷ bytes 0x0300 (0x80 ∷ []) ∷ []) (shows (begins (0x80 ∷ [])) ∷ lit 2048 ∷ [])
+    ∷ case 0xD011 10 (lit 2048 ∷ i 0x0300 ∷ bytes 0x0300 (0x80 ∷ []) ∷ []) (shows (begins []) ∷ lit 2048 ∷ [])
+    ∷ case 0x00E0 10 (shows (begins (0xF0 ∷ [])) ∷ lit 0 ∷ []) (shows (begins (0xF0 ∷ [])) ∷ lit 0 ∷ [])
+    ∷ case 0xD012 6 (lit 2048 ∷ i 0x0FFF ∷ bytes 0x0FFF (0x80 ∷ []) ∷ []) (shows (begins []) ∷ lit 2048 ∷ [])
+    ∷ case 0x6001 0 (lit 2048 ∷ []) (v 0x0 0x01 ∷ lit 2048 ∷ [])
+    ∷ case 0x6001 10 (lit 2049 ∷ []) (v 0x0 0x00 ∷ [])
     -- DXYN twice at both edges, where one spot is dark and one is lit
     ∷ twice 0xD012 (shows (darkTo 0x01) ∷ v 0x0 0x3E ∷ v 0x1 0x1F ∷ i 0x0300 ∷ bytes 0x0300 (0xFF ∷ 0xFF ∷ []) ∷ [])
-    (shows (darkTo 0x02) ∷ v 0xF 0x01 ∷ []) (shows (darkTo 0x01) ∷ v 0xF 0x01 ∷ [])
+    (shows (darkTo 0x02) ∷ v 0xF 0x01 ∷ lit 1 ∷ []) (shows (darkTo 0x01) ∷ v 0xF 0x01 ∷ lit 1 ∷ [])
     -- with X = F, and with Y = F, the first one changes VF, the second one draws elsewhere, and the picture does not come back
     ∷ twice 0xDF01 (v 0xF 0x08 ∷ i 0x0300 ∷ bytes 0x0300 (0x80 ∷ []) ∷ [])
     (shows (begins (0x00 ∷ 0x80 ∷ [])) ∷ v 0xF 0x00 ∷ []) (shows (begins (0x80 ∷ 0x80 ∷ [])) ∷ v 0xF 0x00 ∷ [])
@@ -121,18 +136,20 @@ withEdition e m =
       timers = m .timers;
       wait = m .wait;
       edition = e;
+      lit = m .lit;
     }
 
 abbrev isSecond : Edition → Bool
 isSecond First = false
 isSecond Second = true
 
--- a board with a fact made true, and whether a fact is true of it
+-- a board with a fact made true, where a picture comes with its true number of lit spots; and whether a fact is true of it
 abbrev given : Fact → Board → Board
 given (v x n) b = record { machine = withReg x n (b .machine); memory = b .memory; picture = b .picture }
 given (i a) b = record { machine = withI a (b .machine); memory = b .memory; picture = b .picture }
 given (bytes a l) b = record { machine = b .machine; memory = over (b .memory) a l (length l); picture = b .picture }
-given (shows l) b = record { machine = b .machine; memory = b .memory; picture = l }
+given (shows l) b = record { machine = withLit (litSpots l) (b .machine); memory = b .memory; picture = l }
+given (lit n) b = record { machine = withLit n (b .machine); memory = b .memory; picture = b .picture }
 given second b = record { machine = withEdition Second (b .machine); memory = b .memory; picture = b .picture }
 
 abbrev isTrue : Fact → Board → Bool
@@ -140,6 +157,7 @@ isTrue (v x n) b = eqb (reg (b .machine) x) n
 isTrue (i a) b = eqb (b .machine .i) a
 isTrue (bytes a l) b = same (part (b .memory) a (length l)) l
 isTrue (shows l) b = same (b .picture) l
+isTrue (lit n) b = eqb (b .machine .lit) n
 isTrue second b = isSecond (b .machine .edition)
 
 abbrev allGiven : List Fact → Board → Board
@@ -170,5 +188,5 @@ every (c ∷ cs) = holds c && every cs
 -- ---- THE CASES HOLD
 
 cases : T (every table)
-unfolding table decode drawn darkened refusalOf changeOf after recordWith step stepRefusal stepped
+unfolding table decode drawn darkened litFirst litSpots refusalOf litAfter litRefusal changeOf after recordWith step stepRefusal stepped
 cases = tt

@@ -14,9 +14,9 @@ use Rattle.rules.specs.declared.Op.the-variants.{Unlisted, MachineCode}
 use Rattle.rules.specs.Number.{pick}
 use Rattle.rules.specs.State.{memorySize, pictureSize, startAddress, fresh, upTo}
 use Rattle.rules.specs.Instruction.{decode}
-use Rattle.rules.specs.Picture.{drawn, darkened}
+use Rattle.rules.specs.Picture.{drawn, darkened, litFirst, litSpots}
 use Rattle.rules.specs.Memory.{over}
-use Rattle.rules.specs.Step.{refusalOf, changeOf, after, row}
+use Rattle.rules.specs.Step.{refusalOf, litAfter, litRefusal, changeOf, after, row}
 use Rattle.rules.specs.Record.{placeSize, atCount, count, wordAt, recordWith}
 use Rattle.rules.specs.World.{World, world, boardOf, buffersFit, soundly}
 use Rattle.rules.specs.Load.{freshTrail}
@@ -136,5 +136,5 @@ abbrev randoms : List ℕ
 randoms = replicate 10 0
 
 copies : T (eqb ((run ticks keys randoms start) .accepted) 9 && eqb (runCopied ticks keys randoms start) 277 && eqb (runWrote ticks keys randoms start) 277)
-unfolding decode drawn darkened refusalOf changeOf after recordWith step stepRefusal stepped ticked runFrom runRefusal run total totalFrom copiedOf stepCopied ticksWrote runWroteFrom runWrote
+unfolding decode drawn darkened litFirst litSpots refusalOf litAfter litRefusal changeOf after recordWith step stepRefusal stepped ticked runFrom runRefusal run total totalFrom copiedOf stepCopied ticksWrote runWroteFrom runWrote
 copies = tt

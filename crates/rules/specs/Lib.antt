@@ -1,5 +1,5 @@
--- The rules of document 01 as definitions, and what is claimed of them: Cases, Button, Rows, Copied, Editions, Twice, Past and Promise. Read them
--- in this order; the proofs are in proofs/.
+-- The rules of document 01 as definitions, and what is claimed of them: Cases, Button, Rows, Copied, Editions, Twice, Lit, Past and Promise. Read
+-- them in this order; the proofs are in proofs/.
 pub mod Number
 pub mod Refusal
 pub mod State
@@ -21,5 +21,6 @@ pub mod Rows
 pub mod Copied
 pub mod Editions
 pub mod Twice
+pub mod Lit
 pub mod Past
 pub mod Promise

@@ -14,6 +14,10 @@ abbrev pub unless : Bool → ℕ → ℕ → ℕ
 unless true refusal later = later
 unless false refusal later = refusal
 
+-- a refusal number, and where it is 0 what the later tests say
+abbrev pub orLater : ℕ → ℕ → ℕ
+orLater refusal later = pick (eqb refusal 0) later refusal
+
 -- a number of two bytes, the high one first
 abbrev pub word : ℕ → List ℕ
 word n = n / 256 % 256 ∷ n % 256 ∷ []

@@ -18,6 +18,7 @@ use Rattle.rules.specs.Call.{step, stepBoard, tickBoard, back, forward}
 use Rattle.rules.specs.Run.{Move, aStep, aTick, aBack, aForward, made, movesOf, listsFit, allMoves, playFrom, unrefused}
 use Rattle.rules.specs.Run.{tickedBy, runRefusal, run}
 use Rattle.rules.specs.Typed.{Below, TypedBoard, TypedMoves}
+use Rattle.rules.specs.Lit.{TrueLit}
 
 -- ---- the plain list of boards with its finger, and the two numbers that go with it
 
@@ -73,18 +74,20 @@ first w = record { finger = boardOf w; below = []; above = []; kept = 0; ahead =
 
 -- ---- where it starts, and what is told of the world after any moves
 
--- a sound state, buffers of the right sizes, and an empty history: kept 0 and ahead 0
+-- a sound state with a true number of lit spots, buffers of the right sizes, and an empty history: kept 0 and ahead 0
 pub record Start (w : World) : Type 0 where
   pub fits : buffersFit w ≡ true
   pub sound : sound (w .machine) ≡ true
   pub next : w .trail .next < places (w .history)
   pub kept : w .trail .kept ≡ 0
   pub ahead : w .trail .ahead ≡ 0
+  pub lit : TrueLit w
 
--- the board is the one at the finger; kept and ahead are the list's, with as many boards above the finger, and together at most r;
--- back is refused, by 7, exactly where kept is 0, and forward, by 12, exactly where ahead is 0
+-- the board is the one at the finger, and its number of lit spots is true; kept and ahead are the list's, with as many boards above
+-- the finger, and together at most r; back is refused, by 7, exactly where kept is 0, and forward, by 12, exactly where ahead is 0
 pub record Told (r : ℕ) (w : World) (p : Past) : Type 0 where
   pub finger : boardOf w ≡ p .finger
+  pub lit : TrueLit w
   pub kept : w .trail .kept ≡ p .kept
   pub ahead : w .trail .ahead ≡ p .ahead
   pub above : w .trail .ahead ≡ length (p .above)

@@ -14,7 +14,7 @@ use Rattle.rules.specs.declared.Change.the-variants.{Nothing, InMemory, 
 use Rattle.rules.specs.Number.{pick, word}
 use Rattle.rules.specs.State.{memorySize, pictureSize, stackSize}
 use Rattle.rules.specs.Memory.{part, over}
-use Rattle.rules.specs.Step.{Board}
+use Rattle.rules.specs.Step.{Board, counted}
 
 abbrev pub placeSize : ℕ
 placeSize = 292
@@ -175,7 +175,7 @@ waitAt r = pick (eqb (byteAt r atHeld) 0xFF) Idle (Held (byteAt r atHeld))
 abbrev pub stackAt : List ℕ → List ℕ → List ℕ
 stackAt r stack = take (byteAt r atDepth) (set stack (byteAt r atDepth - 1) (wordAt r atLast)) ++ replicate (stackSize - byteAt r atDepth) 0
 
--- all but the edition, which a load chose and of which a record keeps nothing
+-- all but the edition, which a load chose, and the number of lit spots: of these a record keeps nothing
 abbrev pub machineAt : List ℕ → Machine → Machine
 machineAt r m =
     record {
@@ -187,6 +187,7 @@ machineAt r m =
       timers = record { delay = byteAt r atDelay; tone = byteAt r atTone };
       wait = waitAt r;
       edition = m .edition;
+      lit = m .lit;
     }
 
 abbrev pub memoryAt : Change → List ℕ → List ℕ → List ℕ
@@ -198,3 +199,13 @@ abbrev pub pictureAt : Change → List ℕ → List ℕ → List ℕ
 pictureAt Nothing r picture = picture
 pictureAt (InMemory s n) r picture = picture
 pictureAt (InPicture s n) r picture = over picture s (part r atOld n) n
+
+-- the board that it gives back, with the number of lit spots brought to its picture
+abbrev pub boardAt : List ℕ → Board → Board
+boardAt r b =
+    counted b
+    (record {
+      machine = machineAt r (b .machine);
+      memory = memoryAt (changeAt r) r (b .memory);
+      picture = pictureAt (changeAt r) r (b .picture);
+    })

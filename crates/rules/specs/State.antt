@@ -1,7 +1,7 @@
 -- The sizes, the parts of a state, how one part is changed, and which states are sound.
 use mathlib.Core.Bool.{Bool, true, _&&_}
 use mathlib.Core.List.{List, [], _∷_}
-use Prim.Native.Nat.{ℕ, _+_, _%_}
+use Prim.Native.Nat.{ℕ, _+_, _*_, _%_}
 use lib.ListN.{getD, set, drop, replicate}
 use lib.Dec.{eqb, leb}
 use Rattle.rules.specs.declared.Edition.{Edition}
@@ -18,6 +18,10 @@ memorySize = 4096
 abbrev pub pictureSize : ℕ
 pictureSize = 256
 
+-- the spots of a picture, eight to a byte
+abbrev pub spotCount : ℕ
+spotCount = 8 * pictureSize
+
 abbrev pub stackSize : ℕ
 stackSize = 12
 
@@ -28,27 +32,31 @@ startAddress = 0x0200
 
 abbrev pub withV : List ℕ → Machine → Machine
 withV v m =
-    record { v = v; i = m .i; pc = m .pc; stack = m .stack; depth = m .depth; timers = m .timers; wait = m .wait; edition = m .edition }
+    record { v = v; i = m .i; pc = m .pc; stack = m .stack; depth = m .depth; timers = m .timers; wait = m .wait; edition = m .edition; lit = m .lit }
 
 abbrev pub withI : ℕ → Machine → Machine
 withI i m =
-    record { v = m .v; i = i; pc = m .pc; stack = m .stack; depth = m .depth; timers = m .timers; wait = m .wait; edition = m .edition }
+    record { v = m .v; i = i; pc = m .pc; stack = m .stack; depth = m .depth; timers = m .timers; wait = m .wait; edition = m .edition; lit = m .lit }
 
 abbrev pub withPc : ℕ → Machine → Machine
 withPc pc m =
-    record { v = m .v; i = m .i; pc = pc; stack = m .stack; depth = m .depth; timers = m .timers; wait = m .wait; edition = m .edition }
+    record { v = m .v; i = m .i; pc = pc; stack = m .stack; depth = m .depth; timers = m .timers; wait = m .wait; edition = m .edition; lit = m .lit }
 
 abbrev pub withStack : List ℕ → ℕ → Machine → Machine
 withStack s d m =
-    record { v = m .v; i = m .i; pc = m .pc; stack = s; depth = d; timers = m .timers; wait = m .wait; edition = m .edition }
+    record { v = m .v; i = m .i; pc = m .pc; stack = s; depth = d; timers = m .timers; wait = m .wait; edition = m .edition; lit = m .lit }
 
 abbrev pub withTimers : Timers → Machine → Machine
 withTimers t m =
-    record { v = m .v; i = m .i; pc = m .pc; stack = m .stack; depth = m .depth; timers = t; wait = m .wait; edition = m .edition }
+    record { v = m .v; i = m .i; pc = m .pc; stack = m .stack; depth = m .depth; timers = t; wait = m .wait; edition = m .edition; lit = m .lit }
 
 abbrev pub withWait : Wait → Machine → Machine
 withWait w m =
-    record { v = m .v; i = m .i; pc = m .pc; stack = m .stack; depth = m .depth; timers = m .timers; wait = w; edition = m .edition }
+    record { v = m .v; i = m .i; pc = m .pc; stack = m .stack; depth = m .depth; timers = m .timers; wait = w; edition = m .edition; lit = m .lit }
+
+abbrev pub withLit : ℕ → Machine → Machine
+withLit n m =
+    record { v = m .v; i = m .i; pc = m .pc; stack = m .stack; depth = m .depth; timers = m .timers; wait = m .wait; edition = m .edition; lit = n }
 
 -- VX, and the state with VX changed; a register's number is the low four bits
 abbrev pub reg : Machine → ℕ → ℕ
@@ -74,6 +82,7 @@ fresh edition =
       timers = record { delay = 0; tone = 0 };
       wait = Idle;
       edition = edition;
+      lit = 0;
     }
 
 -- what a load chooses, and nothing else changes
@@ -93,4 +102,4 @@ heldSound Idle = true
 heldSound (Held k) = leb k 15
 
 abbrev pub sound : Machine → Bool
-sound m = leb (m .depth) stackSize && zeros (drop (m .depth) (m .stack)) && heldSound (m .wait)
+sound m = leb (m .depth) stackSize && zeros (drop (m .depth) (m .stack)) && heldSound (m .wait) && leb (m .lit) spotCount

@@ -1,4 +1,5 @@
 -- One step: where it is refused, what it changes, and what stands after it.
+use mathlib.Core.Bool.{_&&_}
 use mathlib.Core.List.{List, _++_}
 use Prim.Native.Nat.{ℕ, _+_, _-_, _*_, _%_, min}
 use lib.ListN.{take, drop, replicate}
@@ -11,12 +12,12 @@ use Rattle.rules.specs.declared.Op.the-variants.{Unlisted, MachineCode}
 use Rattle.rules.specs.declared.Change.{Change}
 use Rattle.rules.specs.declared.Change.the-variants.{Nothing, InMemory, InPicture}
 use Rattle.rules.specs.declared.Refusal.the-variants as refusal
-use Rattle.rules.specs.declared.Refusal.the-variants.{StackFull, StackEmpty, MemoryPastEnd}
-use Rattle.rules.specs.Number.{pick, unless}
+use Rattle.rules.specs.declared.Refusal.the-variants.{StackFull, StackEmpty, MemoryPastEnd, Unsound}
+use Rattle.rules.specs.Number.{pick, unless, same}
 use Rattle.rules.specs.Refusal.{numberOf}
-use Rattle.rules.specs.State.{memorySize, pictureSize, stackSize, reg, upTo, withV, withI, withReg, withWait}
+use Rattle.rules.specs.State.{memorySize, pictureSize, spotCount, stackSize, reg, upTo, withV, withI, withReg, withWait, withLit}
 use Rattle.rules.specs.Registers.{simple, awaited, called, returned, onward}
-use Rattle.rules.specs.Picture.{drawn, darkened}
+use Rattle.rules.specs.Picture.{drawn, darkened, litSpots}
 use Rattle.rules.specs.Memory.{over, part, digitsOf}
 
 -- ---- where it is refused
@@ -40,6 +41,20 @@ refusalOf (Store x) m = past m (upTo x)
 refusalOf (Fetch x) m = past m (upTo x)
 refusalOf Unlisted m = numberOf refusal.Unlisted
 refusalOf MachineCode m = numberOf refusal.MachineCode
+
+-- ---- the number of lit spots, where a picture takes the place of the one before it
+
+-- the number as it was, with what is lit after the change and without what was lit before; where nothing changes nothing is counted
+unfoldable pub litAfter : ℕ → List ℕ → List ℕ → ℕ
+litAfter lit before after = pick (same before after) lit (lit + litSpots after - litSpots before)
+
+-- 10 where that would be below 0 or above 2,048
+unfoldable pub litRefusal : ℕ → List ℕ → List ℕ → ℕ
+litRefusal lit before after =
+    let sum = lit + litSpots after in
+    unless
+    (pick (same before after) (leb lit spotCount) (leb (litSpots before) sum && leb sum (litSpots before + spotCount)))
+    (numberOf Unsound) 0
 
 -- ---- what it changes besides the state
 
@@ -80,6 +95,16 @@ pub record Board : Type 0 where
 abbrev pub board : Machine → List ℕ → List ℕ → Board
 board m memory picture = record { machine = withWait Idle m; memory = memory; picture = picture }
 
+-- the second board, with the number of the first brought from its picture to the second's
+abbrev pub counted : Board → Board → Board
+counted b c =
+    record {
+      machine = withLit (litAfter (b .machine .lit) (b .picture) (c .picture)) (c .machine);
+      memory = c .memory;
+      picture = c .picture;
+    }
+
+-- all but the number of lit spots
 unfoldable pub after : Op → ℕ → ℕ → Machine → List ℕ → List ℕ → Board
 after (Plain s) keys random m memory picture = board (simple s keys random m) memory picture
 after (AwaitKey x) keys random m memory picture = record { machine = awaited x keys m (m .wait); memory = memory; picture = picture }
@@ -98,3 +123,7 @@ after (Fetch x) keys random m memory picture =
 -- these two are always refused, so what they would lead to is never read
 after Unlisted keys random m memory picture = board m memory picture
 after MachineCode keys random m memory picture = board m memory picture
+
+-- the picture after it, the same whatever the keys and the random byte are
+abbrev pub pictureAfter : Op → Machine → List ℕ → List ℕ → List ℕ
+pictureAfter op m memory picture = (after op 0 0 m memory picture) .picture

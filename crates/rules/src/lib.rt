@@ -20,7 +20,7 @@ pub enum Edition {
     Second,
 }
 
-// The machine's state, with the edition that a load chose.
+// The machine's state, with the edition that a load chose and the number of lit spots of the picture.
 pub struct Machine {
     pub v: [u8; 16],
     pub i: u16,
@@ -30,16 +30,19 @@ pub struct Machine {
     pub timers: Timers,
     pub wait: Wait,
     pub edition: Edition,
+    pub lit: u16,
 }
 
 impl Machine {
-    // The bytes of memory, the bytes and the rows of the picture, the entries of the stack, the address that a program is loaded at, and the fewest
-    // bytes that are too many for one: a reader that takes so many sees that a program is too long.
+    // The bytes of memory, the bytes, the rows and the spots of the picture, the entries of the stack, the address that a program is loaded at, and
+    // the fewest bytes that are too many for one: a reader that takes so many sees that a program is too long.
     pub const MEMORY: usize = 4096;
 
     pub const PICTURE: usize = 256;
 
     pub const ROWS: usize = 32;
+
+    pub const SPOTS: usize = 8 * Machine::PICTURE;
 
     pub const STACK: usize = 12;
 
@@ -60,6 +63,7 @@ impl Machine {
             timers: Timers { delay: 0, tone: 0 },
             wait: Wait::Idle,
             edition: edition,
+            lit: 0,
         }
     }
 }

@@ -111,3 +111,38 @@ pub fn write_stop(ran: Ran) {
     let end = put_stop(&mut out, ran);
     io::write_all(1, &out[..end]);
 }
+
+// How many of a number's four digits are zeros in front.
+fn zeros_before(n: u16) -> usize
+    ensures { λ r. ⌜ r ≤ 3 ⌝ }
+{
+    if n < 10 {
+        3
+    } else if n < 100 {
+        2
+    } else if n < 1000 {
+        1
+    } else {
+        0
+    }
+}
+
+fn digit(n: u16, unit: u16) -> u8
+    requires { ⌜ 1 ≤ unit ⌝ }
+{
+    b'0' + (n / unit % 10) as u8
+}
+
+// How many spots are lit, by the machine's own number.
+pub fn write_lit(lit: u16) {
+    let digits = [
+        digit(lit, 1000),
+        digit(lit, 100),
+        digit(lit, 10),
+        digit(lit, 1),
+        b'\n',
+    ];
+    let first = zeros_before(lit);
+    io::write_all(1, b"lit ");
+    io::write_all(1, &digits[first..]);
+}

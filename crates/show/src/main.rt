@@ -1,7 +1,7 @@
 // Reads a program from standard input, runs it for 64 steps with no ticks, no keys and random byte 00, as the trace does, and shows what
 // the card's glass then shows, in block characters: the game's own picture, and beside it, where an argument is handed in, the page of
-// its variables. It is loaded for the second edition, which runs what the first runs and four operations more. The last line says why it
-// stopped, and where.
+// its variables. It is loaded for the second edition, which runs what the first runs and four operations more. The last two lines say how
+// many spots are lit, why it stopped, and where.
 mod blocks;
 
 use parts::Ran;
@@ -59,5 +59,6 @@ fn main() {
     let game = glass_of(Switch::Game, &picture, &page);
     let variables = glass_of(Switch::Variables, &picture, &page);
     blocks::write(&game, &variables, 1 < os::arg_count());
+    blocks::write_lit(machine.lit);
     blocks::write_stop(ran);
 }

@@ -40,7 +40,8 @@ module _ (m : Machine) (t : Trail) (his : List ℕ) (o : Outcome)
       let parts = and-eq-true-iff (sound m) (trailFits t his) .0 sounds in
       let range = and-eq-true-iff (ltb (t .next) (places his)) (leb (t .kept + t .ahead) (places his)) .0 (parts .1) in
       let clear = zeros (drop (m .depth) (m .stack)) in
-      let first = and-eq-true-iff (leb (m .depth) 12 && clear) (heldSound (m .wait)) .0 (parts .0) in
+      let state = and-eq-true-iff (leb (m .depth) 12 && clear && heldSound (m .wait)) (leb (m .lit) 2048) .0 (parts .0) in
+      let first = and-eq-true-iff (leb (m .depth) 12 && clear) (heldSound (m .wait)) .0 (state .0) in
       let most = leb-true (length his) 65536 (room .1) in
       record {
         shallow = leb-true (m .depth) 12 (and-eq-true-iff (leb (m .depth) 12) clear .0 (first .0) .0);

@@ -3,18 +3,19 @@ ghost use mathlib.Core.Path.{_≡_};
 ghost use mathlib.Core.List.{List, _++_};
 ghost use Prim.Native.Nat.{ℕ, _+_, _*_, _%_, _≤_, _<_};
 ghost use lib.Dec.{eqb, ltb};
-ghost use lib.ListN.{length, getD, take, drop};
+ghost use lib.ListN.{length, getD, take, drop, replicate};
 ghost use Rattle.rules.specs.declared.Wait.the-variants.{Idle};
 ghost use Rattle.rules.specs.Number.{pick};
-ghost use Rattle.rules.specs.State.{memorySize, upTo, withI, withReg, withV, withWait};
+ghost use Rattle.rules.specs.State.{memorySize, pictureSize, upTo, withI, withReg, withV, withWait, withLit};
 ghost use Rattle.rules.specs.Registers.{onward};
 ghost use Rattle.rules.specs.Memory.{part, over, digitsOf};
 ghost use Rattle.rules.specs.Picture.{drawn, darkened};
-ghost use Rattle.rules.specs.Step.{rowsChange, changeOf};
+ghost use Rattle.rules.specs.Step.{rowsChange, litAfter, litRefusal, changeOf};
 ghost use Rattle.rules.specs.Rows.{bytesOf};
 ghost use Rattle.parts.specs.Whole.{whole};
 ghost use Rattle.transfers.specs.Within.{Within};
 use parts::Core;
+use picture::Spots;
 use rules::Change;
 use rules::Machine;
 use rules::Op;
@@ -28,7 +29,7 @@ pub struct Acted {
 // ---- where the change lies
 
 // The row that a drawing starts in.
-fn row_of(v: &[u8; 16], y: u8) -> u8
+pub fn row_of(v: &[u8; 16], y: u8) -> u8
     ensures { λ r. ⌜ (r ≡ getD (now (v .entry)) (y % 16) 0 % 32) × (r < 32) ⌝ }
 {
     registers::get(v, y) % 32
@@ -83,27 +84,48 @@ pub fn pattern(i: u16, n: u8, memory: &[u8]) -> &[u8]
     &memory[at..at + count]
 }
 
+// 00E0
+pub fn clear(c: Core, rows: &mut [u64]) -> Core
+    requires { ⌜ (c .pc ≤ 4094) × (length (now rows) ≡ 32) × (litRefusal (c .lit) (bytesOf (now rows)) (replicate pictureSize 0) ≡ 0) ⌝ }
+    ensures { λ r. ⌜ bytesOf (now (rows .exit)) ≡ replicate pictureSize 0 ⌝ }
+    ensures { λ r. ⌜
+        ((v stack : List ℕ) → whole r v stack ≡ withLit (litAfter (c .lit) (bytesOf (now (rows .entry))) (replicate pictureSize 0))
+        (withWait Idle (onward (whole c v stack)))) ⌝ }
+{
+    let dark = picture::clear(rows);
+    let lit = lit::counted(c.lit, Spots { dark, lit: 0 });
+    registers::light(registers::idle(registers::onward(c)), lit)
+}
+
 // DXYN. The drawing is given the pattern alone.
 pub fn draw(c: Core, v: &mut [u8; 16], x: u8, y: u8, pattern: &[u8], rows: &mut [u64]) -> Acted
-    requires { ⌜ (c .pc ≤ 4094) × (length (now rows) ≡ 32) ⌝ }
+    requires { ⌜ (c .pc ≤ 4094) × (length (now rows) ≡ 32) × (length (now pattern) ≤ 256) × (litRefusal (c .lit) (bytesOf (now rows))
+        (drawn (now pattern) (getD (now v) (x % 16) 0 % 64) (getD (now v) (y % 16) 0 % 32) (bytesOf (now rows))) ≡ 0) ⌝ }
     ensures { λ r. ⌜ bytesOf (now (rows .exit)) ≡ drawn (now (pattern .entry)) (getD (now (v .entry)) (x % 16) 0 % 64)
         (getD (now (v .entry)) (y % 16) 0 % 32) (bytesOf (now (rows .entry))) ⌝ }
     ensures { λ r. ⌜
-        ((stack : List ℕ) → whole (r .core) (now (v .exit)) stack ≡ withWait Idle
+        ((stack : List ℕ) → whole (r .core) (now (v .exit)) stack ≡ withLit
+        (litAfter (c .lit) (bytesOf (now (rows .entry)))
+        (drawn (now (pattern .entry)) (getD (now (v .entry)) (x % 16) 0 % 64) (getD (now (v .entry)) (y % 16) 0 % 32)
+        (bytesOf (now (rows .entry)))))
+        (withWait Idle
         (onward
         (withReg 0xF
         (pick
         (ltb 0
         (darkened (now (pattern .entry)) (getD (now (v .entry)) (x % 16) 0 % 64) (getD (now (v .entry)) (y % 16) 0 % 32)
-        (bytesOf (now (rows .entry))))) 1 0) (whole c (now (v .entry)) stack)))) ⌝ }
+        (bytesOf (now (rows .entry))))) 1 0) (whole c (now (v .entry)) stack))))) ⌝ }
     ensures { λ r. ⌜ (r .dark ≡ darkened (now (pattern .entry)) (getD (now (v .entry)) (x % 16) 0 % 64)
         (getD (now (v .entry)) (y % 16) 0 % 32) (bytesOf (now (rows .entry)))) × (r .dark ≤ 8 * length (now (pattern .entry))) ⌝ }
 {
     let column = (registers::get(v, x) % 64) as usize;
     let row = row_of(v, y) as usize;
-    let dark = picture::draw(rows, pattern, column, row);
+    let spots = picture::draw(rows, pattern, column, row);
+    let lit = lit::counted(c.lit, spots);
+    let dark = spots.dark;
+    let flagged = registers::put(c, v, 0xF, registers::flag(0 < dark));
     Acted {
-        core: registers::idle(registers::put(c, v, 0xF, registers::flag(0 < dark))),
+        core: registers::light(registers::idle(flagged), lit),
         dark,
     }
 }

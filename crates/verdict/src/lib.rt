@@ -1,11 +1,18 @@
 // What an instruction needs: the last refusals that there can be, before anything is written.
 ghost use mathlib.Core.Path.{_≡_};
 ghost use mathlib.Core.List.{List};
-ghost use Prim.Native.Nat.{ℕ, _≤_};
+ghost use Prim.Native.Nat.{ℕ, _%_, _≤_};
+ghost use lib.ListN.{length, getD, replicate};
+ghost use Rattle.rules.specs.Number.{orLater};
 ghost use Rattle.rules.specs.Refusal.{number};
+ghost use Rattle.rules.specs.State.{memorySize, pictureSize, spotCount};
+ghost use Rattle.rules.specs.Picture.{drawn};
+ghost use Rattle.rules.specs.Rows.{bytesOf};
 ghost use Rattle.rules.specs.Step as rule;
+ghost use Rattle.rules.specs.declared.Op.the-variants.{Draw};
 ghost use Rattle.parts.specs.Whole.{whole};
 use parts::Core;
+use picture::Spots;
 use rules::Machine;
 use rules::Op;
 use rules::Outcome;
@@ -25,9 +32,54 @@ fn past(c: Core, n: usize) -> Outcome
     Outcome::Refused(Refusal::MemoryPastEnd)
 }
 
-// 2 or 3, then 4, 5 or 6.
-pub fn judged(op: Op, c: Core) -> Outcome
-    ensures { λ r. ⌜ ((v stack : List ℕ) → number r ≡ rule.refusalOf op (whole c v stack)) ⌝ }
+// Whether the number of lit spots stays in its range in a drawing. One that is further from both ends than the pattern has bits needs no
+// look; else what the drawing would turn over is counted, and nothing is written.
+fn late_drawing(lit: u16, v: &[u8; 16], x: u8, y: u8, pattern: &[u8], rows: &[u64]) -> Outcome
+    requires { ⌜ (lit ≤ spotCount) × (length (now rows) ≡ 32) × (length (now pattern) ≤ 256) ⌝ }
+    ensures { λ r. ⌜ number r ≡ rule.litRefusal lit (bytesOf (now (rows .entry)))
+        (drawn (now (pattern .entry)) (getD (now (v .entry)) (x % 16) 0 % 64) (getD (now (v .entry)) (y % 16) 0 % 32) (bytesOf (now (rows .entry)))) ⌝ }
+{
+    let most = 8 * pattern.len();
+    let number = lit as usize;
+    if most <= number {
+        if number + most <= Machine::SPOTS {
+            return Outcome::Done;
+        }
+    }
+    let column = (registers::get(v, x) % 64) as usize;
+    let row = transfers::row_of(v, y) as usize;
+    lit::late(lit, picture::would_turn(rows, pattern, column, row))
+}
+
+// The same of 00E0, which takes away what is lit.
+fn late_clearing(lit: u16, rows: &[u64]) -> Outcome
+    requires { ⌜ length (now rows) ≡ 32 ⌝ }
+    ensures { λ r. ⌜ number r ≡ rule.litRefusal lit (bytesOf (now (rows .entry))) (replicate pictureSize 0) ⌝ }
+{
+    let dark = picture::count(rows);
+    lit::late(lit, Spots { dark, lit: 0 })
+}
+
+// DXYN: 6, then the late 10.
+fn drawable(c: Core, v: &[u8; 16], x: u8, y: u8, n: u8, memory: &[u8], rows: &[u64]) -> Outcome
+    requires { ⌜ (c .lit ≤ spotCount) × (length (now memory) ≡ memorySize) × (length (now rows) ≡ 32) ⌝ }
+    ensures { λ r. ⌜ ((stack : List ℕ) → number r ≡ orLater (rule.past (whole c (now (v .entry)) stack) n)
+        (rule.litRefusal (c .lit) (bytesOf (now (rows .entry)))
+        (rule.pictureAfter (Draw x y n) (whole c (now (v .entry)) stack) (now (memory .entry)) (bytesOf (now (rows .entry)))))) ⌝ }
+{
+    let outcome = past(c, n as usize);
+    let Outcome::Done = outcome else {
+        return outcome;
+    };
+    late_drawing(c.lit, v, x, y, transfers::pattern(c.i, n, memory), rows)
+}
+
+// 2 or 3, then 4, 5 or 6, and after them the late 10, of a number of lit spots that would leave its range.
+pub fn judged(op: Op, c: Core, v: &[u8; 16], memory: &[u8], rows: &[u64]) -> Outcome
+    requires { ⌜ (c .lit ≤ spotCount) × (length (now memory) ≡ memorySize) × (length (now rows) ≡ 32) ⌝ }
+    ensures { λ r. ⌜ ((stack : List ℕ) → number r ≡ orLater (rule.refusalOf op (whole c (now (v .entry)) stack))
+        (rule.litRefusal (c .lit) (bytesOf (now (rows .entry)))
+        (rule.pictureAfter op (whole c (now (v .entry)) stack) (now (memory .entry)) (bytesOf (now (rows .entry)))))) ⌝ }
 {
     match op {
         Op::Plain(_) => Outcome::Done,
@@ -44,8 +96,8 @@ pub fn judged(op: Op, c: Core) -> Outcome
             }
             Outcome::Refused(Refusal::StackEmpty)
         }
-        Op::Clear => Outcome::Done,
-        Op::Draw(_, _, n) => past(c, n as usize),
+        Op::Clear => late_clearing(c.lit, rows),
+        Op::Draw(x, y, n) => drawable(c, v, x, y, n, memory, rows),
         Op::Decimal(_) => past(c, 3),
         Op::Store(x) => past(c, registers::up_to(x)),
         Op::Fetch(x) => past(c, registers::up_to(x)),

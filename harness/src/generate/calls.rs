@@ -179,6 +179,23 @@ pub fn write_image(machine: &Machine) -> Call {
     }
 }
 
+pub fn write_picture(picture: Vec<u8>) -> Call {
+    Call::Write {
+        part: Part::Picture,
+        at: 0,
+        bytes: picture,
+    }
+}
+
+/// The host writes only the number of lit spots.
+pub fn write_lit(number: u16) -> Call {
+    Call::Write {
+        part: Part::Image,
+        at: 56,
+        bytes: number.to_be_bytes().to_vec(),
+    }
+}
+
 pub fn write_memory(at: u16, word: u16) -> Call {
     Call::Write {
         part: Part::Memory,

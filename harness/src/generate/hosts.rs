@@ -4,8 +4,8 @@ use super::instructions;
 use crate::buffers::Host;
 use crate::random::Random;
 use crate::second::{
-    Machine, BYTES_A_ROW, FIRST_EDITION, HISTORY_MOST, LATER, MEMORY, PICTURE, PLACE,
-    SECOND_EDITION, STACK,
+    lit_spots, Machine, BYTES_A_ROW, FIRST_EDITION, HISTORY_MOST, LATER, MEMORY, PICTURE, PLACE,
+    SECOND_EDITION, SPOTS, STACK,
 };
 
 const PLACES_MOST: usize = HISTORY_MOST / PLACE;
@@ -44,8 +44,8 @@ pub fn no_edition(random: &Random) -> u8 {
     random.pick(&[2, 3, 128, 255])
 }
 
-/// A sound machine of any kind, with an empty history.
-pub fn machine(places: usize, random: &Random) -> Machine {
+/// A sound machine of any kind, with an empty history, for this picture.
+pub fn machine(places: usize, picture: &[u8], random: &Random) -> Machine {
     let mut machine = Machine::fresh(edition(random));
     for register in 0..16 {
         machine.v[register] = instructions::value(random);
@@ -57,7 +57,33 @@ pub fn machine(places: usize, random: &Random) -> Machine {
     machine.tone = random.pick(&[0, 1, 2, 255, random.byte()]);
     machine.wait = random.pick(&[None, None, Some(random.byte() & 15)]);
     machine.next = random.pick(&[0, places - 1, random.within(0..=places - 1)]) as u16;
+    machine.lit = lit(picture, random);
     machine
+}
+
+/// A number of lit spots: mostly that of the picture, often a false one.
+fn lit(picture: &[u8], random: &Random) -> u16 {
+    let true_number = lit_spots(picture);
+    match random.within(0..=5) {
+        0 => near(true_number, random),
+        1 => lit_near_a_limit(random.within(1..=15), random),
+        _ => true_number,
+    }
+}
+
+/// A number of lit spots near either end, or as far from it as a change of so many
+/// bytes, or of the most that a drawing has, can take it.
+pub fn lit_near_a_limit(bytes: usize, random: &Random) -> u16 {
+    let most = 8 * bytes as u16;
+    let from_the_end = random.pick(&[0, 0, 0, most, most, 120]);
+    near(random.pick(&[from_the_end, SPOTS - from_the_end]), random)
+}
+
+/// A number at most a few below or above another, and not above all spots.
+fn near(number: u16, random: &Random) -> u16 {
+    let few = random.pick(&[0, 1, 3, 10]);
+    let above = random.within(0..=2 * few) as u16;
+    (number + above).saturating_sub(few as u16).min(SPOTS)
 }
 
 pub fn set_depth(machine: &mut Machine, random: &Random) {
@@ -69,24 +95,36 @@ pub fn set_depth(machine: &mut Machine, random: &Random) {
     }
 }
 
-/// A sound host: random memory, a picture, and a history of random bytes.
+/// A sound host: random memory, a picture, and a history of random bytes. In a
+/// memory of FF a drawing turns as many spots as it can.
 pub fn sound(random: &Random) -> Host {
     let length = history_length(random);
-    let machine = machine(length / PLACE, random);
+    let picture = picture(random);
+    let machine = machine(length / PLACE, &picture, random);
     Host {
         image: machine.to_image().to_vec(),
-        memory: random.bytes(MEMORY),
-        picture: picture(random),
+        memory: match random.once_in(8) {
+            true => vec![0xFF; MEMORY],
+            false => random.bytes(MEMORY),
+        },
+        picture,
         history: history_bytes(length, random),
     }
 }
 
+/// Dark, lit, one of the two but for some spots, or any.
 pub fn picture(random: &Random) -> Vec<u8> {
+    let mut picture = vec![random.pick(&[0, 0xFF]); PICTURE];
     match random.within(0..=3) {
-        0 => vec![0; PICTURE],
-        1 => vec![0xFF; PICTURE],
-        _ => random.bytes(PICTURE),
+        0 => {}
+        1 => {
+            for _ in 0..random.pick(&[1, 5, 20, 150]) {
+                picture[random.within(0..=PICTURE - 1)] ^= 1 << random.within(0..=7);
+            }
+        }
+        _ => picture = random.bytes(PICTURE),
     }
+    picture
 }
 
 /// Bytes that are not 0 show what a record fails to clear.
@@ -109,7 +147,7 @@ pub fn set_reach(machine: &mut Machine, places: usize, random: &Random) {
 /// Makes an image unsound, or puts its numbers out of range, in one way.
 pub fn spoil_image(image: &mut [u8], places: usize, random: &Random) {
     let number = |value: usize| (value as u16).to_be_bytes();
-    match random.within(0..=7) {
+    match random.within(0..=8) {
         0 => image[20] = random.pick(&[13, 14, 16, 128, 255]),
         1 => {
             let depth = random.within(0..=STACK - 1);
@@ -125,6 +163,11 @@ pub fn spoil_image(image: &mut [u8], places: usize, random: &Random) {
             image[48..50].copy_from_slice(&number(next));
         }
         6 => {
+            let above = usize::from(SPOTS) + 1;
+            let lit = random.pick(&[above, above + 1, 0x1000, 0x8000, 0xFFFF]);
+            image[56..58].copy_from_slice(&number(lit));
+        }
+        7 => {
             let kept = random.pick(&[places + 1, places + 2, 256, 0x8000, 0xFFFF]);
             image[50..52].copy_from_slice(&number(kept));
         }

@@ -9,29 +9,34 @@ use crate::second::{
     MOVE_STEP, PICTURE, PLACE, START,
 };
 
-/// A new machine, and an instruction to stand at its PC, with operands at the
-/// edges.
-fn before_an_instruction(places: usize, random: &Random) -> (Machine, u16) {
-    let mut machine = hosts::machine(places, random);
+/// A new machine for a picture, and an instruction to stand at its PC, with
+/// operands at the edges.
+fn before_an_instruction(places: usize, picture: &[u8], random: &Random) -> (Machine, u16) {
+    let mut machine = hosts::machine(places, picture, random);
     let word = match random.within(0..=5) {
         0 | 1 => instructions::using_memory(random),
         2 => instructions::using_the_flag(machine.edition, random),
         _ => instructions::any(machine.edition, random),
     };
     machine.i = instructions::i_for(word, random);
+    if word >> 12 == 0xD && random.once_in(2) {
+        machine.lit = hosts::lit_near_a_limit(usize::from(word & 15), random);
+    }
     instructions::bring_near(word, &mut machine.v, random);
     hosts::set_reach(&mut machine, places, random);
     (machine, word)
 }
 
-/// Again and again a new machine and an instruction at its PC; then a step, and
-/// sometimes the way back and forward again.
+/// Again and again a new machine and picture and an instruction at PC; then a
+/// step, and sometimes the way back and forward again.
 pub fn one_instruction_at_a_time(random: &Random) -> Case {
     let start = hosts::sound(random);
     let places = places(&start.history);
     let mut made = Vec::new();
     for _ in 0..random.within(1..=24) {
-        let (machine, word) = before_an_instruction(places, random);
+        let picture = hosts::picture(random);
+        let (machine, word) = before_an_instruction(places, &picture, random);
+        made.push(calls::write_picture(picture));
         made.push(calls::write_memory(machine.pc, word));
         made.push(calls::write_image(&machine));
         made.push(match random.within(0..=5) {
@@ -50,16 +55,21 @@ pub fn back_onto_a_record(random: &Random) -> Case {
     let places = places(&start.history);
     let mut made = Vec::new();
     for _ in 0..random.within(1..=12) {
-        let mut machine = hosts::machine(places, random);
+        let picture = hosts::picture(random);
+        let mut machine = hosts::machine(places, &picture, random);
         hosts::set_reach(&mut machine, places, random);
         if machine.kept == 0 {
             (machine.kept, machine.ahead) = (1, 0);
         }
         let mut record = records::whole(machine.depth, random);
+        if record.starts_with(b"DI") && random.once_in(2) {
+            machine.lit = hosts::lit_near_a_limit(records::count(&record), random);
+        }
         for _ in 0..random.within(0..=2) {
             records::spoil(&mut record, machine.depth, random);
         }
         let before_next = (usize::from(machine.next) + places - 1) % places;
+        made.push(calls::write_picture(picture));
         made.push(Call::Write {
             part: Part::History,
             at: PLACE * before_next,
@@ -87,7 +97,8 @@ pub fn forward_onto_a_record(random: &Random) -> Case {
     let places = places(&start.history);
     let mut made = Vec::new();
     for _ in 0..random.within(1..=12) {
-        let (mut machine, word) = before_an_instruction(places, random);
+        let picture = hosts::picture(random);
+        let (mut machine, word) = before_an_instruction(places, &picture, random);
         if machine.ahead == 0 && !random.once_in(8) {
             machine.ahead = 1;
             machine.kept = machine.kept.min(places as u16 - 1);
@@ -96,6 +107,7 @@ pub fn forward_onto_a_record(random: &Random) -> Case {
         for _ in 0..random.within(0..=2) {
             records::spoil(&mut record, machine.depth, random);
         }
+        made.push(calls::write_picture(picture));
         made.push(Call::Write {
             part: Part::History,
             at: PLACE * usize::from(machine.next),
@@ -118,7 +130,7 @@ pub fn unsound(random: &Random) -> Case {
     let places = places(&start.history);
     let mut made = Vec::new();
     for _ in 0..random.within(1..=8) {
-        let machine = hosts::machine(places, random);
+        let machine = hosts::machine(places, &start.picture, random);
         let mut image = machine.to_image();
         hosts::spoil_image(&mut image, places, random);
         made.push(Call::Write {
@@ -181,7 +193,7 @@ pub fn turnings(random: &Random) -> Case {
 /// FX0A after FX0A, while few keys go up and down.
 pub fn key_waits(random: &Random) -> Case {
     let mut start = hosts::sound(random);
-    let mut machine = hosts::machine(places(&start.history), random);
+    let mut machine = hosts::machine(places(&start.history), &start.picture, random);
     machine.pc = START;
     for at in 0..20 {
         let x = u16::from(random.byte() & 15) << 8;
@@ -213,7 +225,7 @@ pub fn key_waits(random: &Random) -> Case {
 /// Calls past depth 12 and returns past depth 0, and all the way back.
 pub fn deep_calls(random: &Random) -> Case {
     let mut start = hosts::sound(random);
-    let mut machine = hosts::machine(places(&start.history), random);
+    let mut machine = hosts::machine(places(&start.history), &start.picture, random);
     machine.pc = START;
     hosts::set_depth(&mut machine, random);
     start.image = machine.to_image().to_vec();
@@ -250,6 +262,27 @@ pub fn walk_of_wild_bytes(random: &Random) -> Case {
     write_bytes(&mut start.memory, usize::from(START), &program);
     let made = walk(100, places(&start.history), random);
     Case { start, calls: made }
+}
+
+/// A program that runs for long, while the host writes a number of lit spots near
+/// a limit now and then. So drawings are refused in the middle of runs and plays.
+pub fn false_numbers(random: &Random) -> Case {
+    let mut made = vec![load_of_a_ring(random)];
+    for _ in 0..random.within(4..=20) {
+        match random.within(0..=5) {
+            0 | 1 => {
+                let lit = hosts::lit_near_a_limit(random.within(1..=15), random);
+                made.push(calls::write_lit(lit));
+            }
+            2 | 3 => made.push(calls::run(random.within(1..=40), random)),
+            4 => made.push(calls::play(random.within(1..=40), random)),
+            _ => made.extend(calls::to_and_fro(6, random)),
+        }
+    }
+    Case {
+        start: empty_host(hosts::walk_history_length(random)),
+        calls: made,
+    }
 }
 
 /// A program that runs for long, in the edition that it is written for.

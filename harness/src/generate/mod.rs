@@ -25,6 +25,7 @@ const KINDS: &[(usize, Kind)] = &[
     (4, kinds::deep_calls),
     (8, kinds::walk_of_a_program),
     (4, kinds::walk_of_wild_bytes),
+    (6, kinds::false_numbers),
     (4, kinds::short_lists),
     (1, kinds::long_lists),
 ];

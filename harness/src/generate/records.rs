@@ -1,6 +1,6 @@
 //! History records: whole, barely whole, and damaged in each way the rules list.
 
-use super::instructions;
+use super::{hosts, instructions};
 use crate::random::Random;
 use crate::second::PLACE;
 
@@ -30,9 +30,15 @@ pub fn whole(present_depth: u8, random: &Random) -> Vec<u8> {
             let count = random.pick(&[1, 8, 255, 256, random.within(1..=256)]);
             let start = random.pick(&[0, 256 - count, random.within(0..=256 - count)]);
             range(&mut record, b"DI", start, count);
+            record[32..288].copy_from_slice(&hosts::picture(random));
         }
     }
     record
+}
+
+/// How many old bytes a record has.
+pub fn count(record: &[u8]) -> usize {
+    usize::from(u16::from_be_bytes([record[30], record[31]]))
 }
 
 /// A tick's record of another hand may have any keys and random byte too.

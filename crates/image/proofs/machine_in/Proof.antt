@@ -9,7 +9,8 @@ use Rattle.image.proofs.machine_in.Tie as tie
 returns : tie.Need-returns
 unfolding machineOf
 returns c at =
-    let wait = c .before .before in
+    let edition = c .before in
+    let wait = edition .before .before in
     let depth = wait .before .before in
     let pc = depth .before .before .before in
     let arrays = pc .before .before .before in
@@ -23,8 +24,9 @@ returns c at =
       depth = calls at;
       timers = record { delay = byteAt image 21; tone = byteAt image 22 };
       wait = wait .wait-of .ensures at;
-      edition = c .edition-of .ensures at;
+      edition = edition .edition-of .ensures at;
+      lit = c .word-at3 .ensures at;
     }
 
 pub machine-in-spec : {M : Type 1} → statement M
-machine-in-spec = tie.close (tie.spec (λ c κs. omega arith) (λ c κs. omega arith) (λ c. omega arith) (λ c. omega arith) (λ c κs. omega arith) (λ c κs. omega arith) (λ c κs. omega arith) (λ c. omega arith) (λ c κs. tt) (λ c. omega arith) (λ c κs. tt) (λ c. omega arith) (λ c κs. tt) returns)
+machine-in-spec = tie.close (tie.spec (λ c κs. omega arith) (λ c κs. omega arith) (λ c. omega arith) (λ c. omega arith) (λ c κs. omega arith) (λ c κs. omega arith) (λ c κs. omega arith) (λ c. omega arith) (λ c κs. tt) (λ c. omega arith) (λ c κs. tt) (λ c. omega arith) (λ c κs. tt) (λ c κs. omega arith) returns)

@@ -9,11 +9,14 @@ use Rattle.image.proofs.tail_of.Tie as tie
 
 returns : tie.Need-returns
 returns c =
-    let edition = c .before .before .edition-byte .ensures in
-    let ahead = c .before .before .before .before .args .t .ahead in
-    let high : c .before .high .result ≡ ahead / 256 % 256 = omega (arith, c .before .high .ensures) in
-    let low : c .low .result ≡ ahead % 256 = omega (arith, c .low .ensures) in
-    λ i. edition i ∷ 0 ∷ high i ∷ low i ∷ replicate 8 0
+    let lit-high = c .before .high2 .ensures in
+    let lit-low = c .low2 .ensures in
+    let words = c .before .before in
+    let edition = words .before .before .edition-byte .ensures in
+    let ahead = words .before .before .before .before .args .t .ahead in
+    let high : words .before .high .result ≡ ahead / 256 % 256 = omega (arith, words .before .high .ensures) in
+    let low : words .low .result ≡ ahead % 256 = omega (arith, words .low .ensures) in
+    λ i. edition i ∷ 0 ∷ high i ∷ low i ∷ lit-high i ∷ lit-low i ∷ replicate 6 0
 
 pub tail-of-spec : {M : Type 1} → statement M
-tail-of-spec = tie.close (tie.spec (λ c. omega arith) (λ c κs. tt) (λ c κs. tt) (λ c κs. tt) returns)
+tail-of-spec = tie.close (tie.spec (λ c. omega arith) (λ c κs. tt) (λ c κs. tt) (λ c κs. tt) (λ c κs. tt) (λ c κs. tt) returns)

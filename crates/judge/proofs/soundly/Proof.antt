@@ -20,6 +20,7 @@ typed c =
       stack = below-of (m .stack) (λ i h. let f : Fits w16 (getD (m .stack) i 0) = search needs in f .fits);
       delay = search needs;
       tone = search needs;
+      lit = search needs;
     }
 
 pub soundly-spec : {M : Type 1} → statement M

@@ -1,0 +1,2 @@
+-- What the number's tests come to.
+pub mod Laws

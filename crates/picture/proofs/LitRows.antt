@@ -1,0 +1,42 @@
+-- The lit spots of a picture counted row by row, from the first on.
+use mathlib.Core.Path.{_≡_, refl, sym, ap, ap₂, _∙_}
+use mathlib.Core.List.{List}
+use Prim.Native.Nat.{ℕ, _+_, _*_, _^_, _≤_, _<_}
+use native.Mathlib.Omega.{arith}
+use native.Mathlib.Numerals.{add-one}
+use lib.ListN.{getD, drop}
+use lib.Seq.{getD-drop}
+use lib.Count.{ones}
+use Rattle.rules.specs.Picture.{spot, litSpots}
+use Rattle.rules.specs.Rows.{bytesOf}
+use Rattle.rules.proofs.Laid.{Laid}
+use Rattle.rules.proofs.Counted.{lit-sum}
+use Rattle.picture.specs.Masks.{summed}
+use Rattle.picture.proofs.Shown.{spot-is}
+use Rattle.picture.proofs.Sums.{sum-rows}
+
+lit-rows : (rows : List ℕ) → ((y : ℕ) → getD rows y 0 < 2 ^ 64) → litSpots (bytesOf rows) ≡ summed (λ k. ones (getD rows k 0)) 32
+lit-rows rows small = lit-sum (bytesOf rows) ∙ sum-rows (spot (bytesOf rows)) (λ k. getD rows k 0) small (λ x y h l. spot-is rows x y h)
+
+-- lit spots are counted in the rows above y
+pub record LitAbove (rows : List ℕ) (y lit : ℕ) : Type 0 where
+  pub is : lit ≡ summed (λ k. ones (getD rows k 0)) y
+  pub few : lit ≤ 64 * y
+
+module _ (rows : List ℕ) where
+  pub no-row : LitAbove rows 0 0
+  unfolding summed
+  no-row = record { is = refl; few = omega arith }
+
+  pub row-more : (y lit n : ℕ) → LitAbove rows y lit → n ≡ ones (getD rows y 0) → n ≤ 64 → LitAbove rows (y + 1) (lit + n)
+  unfolding summed
+  row-more y lit n l e h = record { is = rw add-one (ap₂ _+_ (l .is) e); few = omega (arith, l .few) }
+
+  pub all-rows : ((y : ℕ) → getD rows y 0 < 2 ^ 64) → (y lit : ℕ) → LitAbove rows y lit → y ≡ 32 → (lit ≡ litSpots (bytesOf rows)) × (lit ≤ 2048)
+  all-rows small y lit l e = (rw e at (l .is) ∙ sym (lit-rows rows small), omega (arith, l .few))
+
+-- the row that is laid next still stands
+pub next-stands : (r s q : List ℕ) (n y : ℕ) → Laid r 0 s n q y → getD q y 0 ≡ getD r y 0
+next-stands r s q n y p =
+    let at : (l : List ℕ) → getD (drop (0 + y) l) 0 0 ≡ getD l y 0 = λ l. getD-drop (0 + y) l 0 0 ∙ ap (λ (k : ℕ). getD l k 0) (omega arith) in
+    sym (at q) ∙ ap (λ (l : List ℕ). getD l 0 0) (p .left) ∙ at r

@@ -1,0 +1,42 @@
+-- 6 settles it; else the pattern is in memory, and the late 10 is that of the drawing.
+use mathlib.Core.Path.{sym, ap, _∙_}
+use mathlib.Core.List.{[]}
+use native.Mathlib.Omega.{arith}
+use lib.ListN.{length-take}
+use borrow.Author.Needs.{needs}
+use Rattle.rules.specs.Refusal.{number}
+use Rattle.rules.specs.Step.{after}
+use Rattle.rules.proofs.Given.{refused-some}
+use Rattle.parts.specs.Whole.{whole}
+use Rattle.verdict.proofs.Laws.{settled, within}
+use Rattle.verdict.proofs.drawable.Statement.{statement}
+use Rattle.verdict.proofs.drawable.Tie as tie
+
+returns : tie.Need-returns
+returns c stack =
+    let told = c .enum-told2 .given in
+    let past = c .before .before in
+    let s = past .before .before .before in
+    settled _ _ _ (past .past .ensures (s .args .v .now) stack) (λ z. refused-some (told .0 .0) (sym (ap number (told .1)) ∙ z))
+
+pattern-requires : tie.Need-pattern-requires
+pattern-requires c κs =
+    let past = c .before .before in
+    let s = past .before .before .before in
+    (within (whole (s .args .c) (s .args .v .now) []) (s .args .n) (sym (past .past .ensures (s .args .v .now) []) ∙ ap number (c .enum-told .given .1)), s .pre .1)
+
+late-drawing-requires : tie.Need-late-drawing-requires
+late-drawing-requires c κs =
+    let s = c .before .before .before .before .before .before in
+    (s .pre .0, s .pre .2, rw (c .pattern .ensures) (simp length-take (omega arith)))
+
+returns-2 : tie.Need-returns-2
+unfolding after
+returns-2 c stack =
+    let told = c .before .before in
+    let past = told .before .before in
+    let s = past .before .before .before in
+    rw (sym (past .past .ensures (s .args .v .now) stack) ∙ ap number (told .enum-told .given .1)) (rw (c .before .pattern .ensures) at (c .late-drawing .ensures))
+
+pub drawable-spec : {M : Type 1} → statement M
+drawable-spec = tie.close (tie.spec (search needs) (search needs) (search needs) returns pattern-requires late-drawing-requires returns-2)
