@@ -6,9 +6,9 @@
  * one step or one clock tick, go one action back or forward again, run a list
  * of inputs, and play a list of moves. They hold the picture as rows, and two
  * more turn rows into bytes and bytes into rows. A tenth turns those bytes into
- * the ones of the card's own panel, and an eleventh draws a page of the
- * variables, for a dock that shows the game or its insides. A load chooses the
- * edition of the instruction set.
+ * the ones of the card's own panel, an eleventh draws a page of the variables,
+ * for a dock that shows the game or its insides, and a twelfth salvages a history
+ * in which cells have worn. A load chooses the edition of the instruction set.
  *
  * THE BUFFERS
  *
@@ -35,17 +35,22 @@
  *   panel    1,024 bytes   128 by 64 dots, 16 bytes a row, top row first, the
  *                          highest bit leftmost, 1 for a lit dot
  *
- * and for card_page alone:
+ * for card_page alone:
  *
  *   page     256 bytes     spots as in a picture, so card_panel turns it into
  *                          dots too
  *
+ * and for card_salvage alone:
+ *
+ *   list     two numbers of 16 bits for each place of the history, or more
+ *
  * Each buffer is handed over as a pointer and, right after it, its length. The
- * length counts elements: bytes, 16-bit numbers for keys, 64-bit numbers for
- * rows and for an answer. So sizeof gives the length of a buffer of bytes, and of
- * no other: the rows have CARD_ROWS elements and an answer CARD_ANSWER, and
- * `sizeof rows` and `sizeof answer` are eight times that. A wrong length is
- * refused, so a call never reads or writes outside the lengths that it was told.
+ * length counts elements: bytes, 16-bit numbers for keys and for a list, 64-bit
+ * numbers for rows and for an answer. So sizeof gives the length of a buffer of
+ * bytes, and of no other: the rows have CARD_ROWS elements and an answer
+ * CARD_ANSWER, and `sizeof rows` and `sizeof answer` are eight times that. A
+ * wrong length is refused, so a call never reads or writes outside the lengths
+ * that it was told.
  *
  * What the host must see to:
  *   - A pointer is never null, even when the length is 0; any valid address
@@ -53,10 +58,10 @@
  *   - No buffer that is written overlaps another of the same call. Two that are
  *     only read may: a run's ticks and random bytes can be one list of zeros.
  *   - Any contents are allowed. A state that cannot be is refused with
- *     CARD_UNSOUND; a history that somebody else wrote in may be refused with
- *     CARD_DAMAGED_RECORD. A host that changes the rows itself, with card_rows
- *     too, has to set the number of lit spots in the image as well, or that is
- *     false from then on.
+ *     CARD_UNSOUND; a history that somebody else wrote in, or that has worn, may
+ *     be refused with CARD_DAMAGED_RECORD, and card_salvage makes it fit again. A
+ *     host that changes the rows itself, with card_rows too, has to set the number
+ *     of lit spots in the image as well, or that is false from then on.
  *   - Somebody has written the contents. What is proved speaks of bytes that have
  *     a value, so buffers that are still uninitialised are outside of it. An
  *     accepted card_load writes every byte of image, memory, rows and history,
@@ -96,8 +101,8 @@
  * Every function returns 0 (CARD_DONE) or a refusal number. A refused call
  * leaves every buffer as it came, with these three exceptions:
  *   - card_load leaves the fresh image in a 64-byte image, refused or not;
- *   - card_step and card_run write all four numbers of the answer, refused or
- *     not, unless the answer itself has a wrong length;
+ *   - card_step, card_run and card_salvage write all four numbers of the answer,
+ *     refused or not, unless the answer itself has a wrong length;
  *   - card_run and card_play keep the actions that were accepted before,
  *     whichever number comes after them.
  *
@@ -179,6 +184,9 @@ extern "C" {
 /* How many actions a history of this length can take back. */
 #define CARD_PLACES(history_length) ((history_length) / CARD_PLACE)
 
+/* How many numbers the list of a salvage of such a history needs. */
+#define CARD_LIST(history_length) (2 * CARD_PLACES(history_length))
+
 /* ---- Refusal numbers ---------------------------------------------------- */
 
 enum card_refusal {
@@ -213,6 +221,7 @@ enum card_refusal {
  *   bytes    9
  *   panel    9
  *   page     9, 10
+ *   salvage  9, 10
  *
  * The late 10 is said of the number of lit spots alone: the state is one that can
  * be, but the number in it is false. Like every refusal of an action it leaves
@@ -260,6 +269,19 @@ enum card_refusal {
 #define CARD_ACCEPTED 0  /* how many steps were accepted */
 #define CARD_WENT_DARK 1 /* how many lit spots their drawings darkened */
 #define CARD_COPIED 2    /* of a run: how many bytes its records keep */
+
+/* ---- The answer and the list of a salvage ------------------------------- */
+
+/* Where each number of the answer stands. The two after these are 0. */
+#define CARD_RECORDS_KEPT 0   /* how many records are left, all of them sound */
+#define CARD_PLACES_CLEARED 1 /* how many places are 0 now, and listed */
+
+/* The second number of an entry of the list: as what the place had counted. */
+enum card_standing {
+    CARD_WAS_KEPT = 0,  /* a record that card_back could reach */
+    CARD_WAS_AHEAD = 1, /* a record that card_forward could reach */
+    CARD_WAS_FREE = 2   /* neither */
+};
 
 /* ---- The calls ---------------------------------------------------------- */
 
@@ -441,6 +463,36 @@ uint32_t card_panel(const uint8_t *picture, size_t picture_length,
  */
 uint32_t card_page(const uint8_t *image, size_t image_length,
                    uint8_t *page, size_t page_length);
+
+/*
+ * Salvages a history in which cells have worn. From the newest record backwards,
+ * and no further than the kept ones, it finds the longest unbroken row of sound
+ * records. The newest is compared with the depth of the state, and each older one
+ * with the depth in the next newer record. Kept becomes the length of that row
+ * and ahead 0, in the image; next and all else of the state stay. Every other
+ * place of the history becomes 0; the row's records and the bytes after the last
+ * place stay.
+ *
+ * answer[CARD_RECORDS_KEPT] is how many records are left, and
+ * answer[CARD_PLACES_CLEARED] how many places were cleared. For each of these,
+ * lowest place first, an entry of two numbers stands in the list:
+ *   list[2 * i]      the place's number
+ *   list[2 * i + 1]  one of the three above, as it had counted before
+ * The rest of the list stays as it was.
+ *
+ * Afterwards as many card_back as records are left are accepted, while the number
+ * of lit spots is true, and the next one is CARD_NOTHING_KEPT. A second salvage of
+ * the same history gives the same answer and the same places, now all as
+ * CARD_WAS_FREE, and changes no byte of the history.
+ *
+ * A history or a list of a wrong length is CARD_LENGTH; a list may have more than
+ * CARD_LIST numbers, and not fewer. A state that cannot be, next, kept and ahead
+ * included, is CARD_UNSOUND. A refused salvage answers 0 and 0.
+ */
+uint32_t card_salvage(uint8_t *image, size_t image_length,
+                      uint8_t *history, size_t history_length,
+                      uint16_t *list, size_t list_length,
+                      uint64_t *answer, size_t answer_length);
 
 #ifdef __cplusplus
 }

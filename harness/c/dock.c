@@ -33,6 +33,8 @@ struct desk {
     uint8_t guard_7[GUARD];
     uint8_t picture[CARD_PICTURE];
     uint8_t guard_8[GUARD];
+    uint16_t list[2 * PLACES];
+    uint8_t guard_9[GUARD];
 };
 
 static struct desk desk;
@@ -61,6 +63,7 @@ static void set_guards(void) {
     memset(desk.guard_6, GUARD_BYTE, GUARD);
     memset(desk.guard_7, GUARD_BYTE, GUARD);
     memset(desk.guard_8, GUARD_BYTE, GUARD);
+    memset(desk.guard_9, GUARD_BYTE, GUARD);
 }
 
 static void look_at_guard(const uint8_t *guard) {
@@ -82,6 +85,7 @@ static uint32_t after_call(uint32_t refusal) {
     look_at_guard(desk.guard_6);
     look_at_guard(desk.guard_7);
     look_at_guard(desk.guard_8);
+    look_at_guard(desk.guard_9);
     return refusal;
 }
 
@@ -160,6 +164,13 @@ static uint32_t fill_panel(void) {
 static uint32_t draw_page(void) {
     return after_call(card_page(desk.image, sizeof desk.image,
                                 desk.page, sizeof desk.page));
+}
+
+static uint32_t salvage(void) {
+    return after_call(card_salvage(desk.image, sizeof desk.image,
+                                   desk.history, sizeof desk.history,
+                                   desk.list, CARD_LIST(sizeof desk.history),
+                                   desk.answer, CARD_ANSWER));
 }
 
 /* ---- Looking at the machine --------------------------------------------- */
@@ -576,12 +587,18 @@ static void refusals(void) {
     refused(after_call(card_page(desk.image, sizeof desk.image,
                                  desk.page, sizeof desk.page - 1)),
             CARD_LENGTH, "a page of 255 bytes");
+    refused(after_call(card_salvage(desk.image, sizeof desk.image,
+                                    desk.history, sizeof desk.history,
+                                    desk.list, CARD_LIST(sizeof desk.history) - 1,
+                                    desk.answer, CARD_ANSWER)),
+            CARD_LENGTH, "a list that lacks a number");
 
     prepare(0x6000);
     desk.image[CARD_AT_DEPTH] = CARD_STACK + 1;
     remember();
     refused(step(0, 0), CARD_UNSOUND, "depth 13");
     refused(draw_page(), CARD_UNSOUND, "a page of depth 13");
+    refused(salvage(), CARD_UNSOUND, "a salvage beside depth 13");
 
     prepare(0x6000);
     desk.image[CARD_AT_LATER] = 1;
@@ -714,6 +731,69 @@ static void one_place(void) {
     expect(desk.image[CARD_AT_V] == 1, "the first step stands");
 }
 
+/* ---- A history with one worn cell --------------------------------------- */
+
+/* Neighbours that had counted alike on one line. */
+static void show_cleared(void) {
+    static const char *const was[] = {"kept", "ahead", "free"};
+    size_t cleared = (size_t)desk.answer[CARD_PLACES_CLEARED];
+    size_t first = 0;
+
+    printf("salvage: %u records kept, %u places cleared\n",
+           (unsigned)desk.answer[CARD_RECORDS_KEPT], (unsigned)cleared);
+    for (size_t at = 0; at < cleared; at++) {
+        const uint16_t *entry = desk.list + 2 * at;
+        if (at + 1 == cleared || entry[2] != entry[0] + 1 ||
+            entry[3] != entry[1]) {
+            printf("    places %u to %u, which had counted as %s\n",
+                   desk.list[2 * first], entry[0], was[entry[1]]);
+            first = at + 1;
+        }
+    }
+}
+
+static void a_worn_cell(void) {
+    static const uint8_t zeros[16];
+    static const uint16_t no_keys[16];
+    static struct desk worn;
+
+    load(PROGRAM, sizeof PROGRAM, CARD_FIRST_EDITION);
+    run(zeros, no_keys, zeros, 14);
+    expect(back() == CARD_DONE && back() == CARD_DONE, "two backs are accepted");
+    desk.history[4 * CARD_PLACE] ^= 0x08; /* a bit of the mark of record 4 */
+    memcpy(&worn, &desk, sizeof desk);
+
+    unsigned backs = 0;
+    uint32_t refusal;
+    while ((refusal = back()) == CARD_DONE) {
+        backs++;
+    }
+    printf("a worn cell: %u backs, then %u\n", backs, (unsigned)refusal);
+    expect(refusal == CARD_DAMAGED_RECORD, "the worn record is refused");
+
+    memcpy(&desk, &worn, sizeof desk);
+    memset(desk.list, 0x77, sizeof desk.list);
+    expect(salvage() == CARD_DONE, "a worn history is salvaged");
+    show_cleared();
+    show_state();
+    expect(desk.answer[CARD_RECORDS_KEPT] == backs,
+           "what could be taken back is kept");
+    expect(memcmp(desk.history + 5 * CARD_PLACE, worn.history + 5 * CARD_PLACE,
+                  backs * CARD_PLACE) == 0,
+           "the sound records stand as they were");
+    memcpy(worn.history, desk.history, sizeof desk.history);
+
+    expect(salvage() == CARD_DONE, "and once more");
+    show_cleared();
+    expect(memcmp(desk.history, worn.history, sizeof desk.history) == 0,
+           "a second salvage changes no byte");
+    while ((refusal = back()) == CARD_DONE) {
+        backs--;
+    }
+    expect(backs == 0 && refusal == CARD_NOTHING_KEPT,
+           "as many backs as records, and then nothing is kept");
+}
+
 /* ---- Rows and bytes ----------------------------------------------------- */
 
 /* Draws two digits, and turns the rows into bytes and back. */
@@ -813,6 +893,7 @@ int main(void) {
     refusals();
     second_edition();
     one_place();
+    a_worn_cell();
     rows_and_bytes();
     the_panel();
     the_page();

@@ -72,6 +72,13 @@ impl Host {
     }
 }
 
+/// What a call fills beside them, each empty where the call has none.
+pub struct Told<'a> {
+    pub answer: &'a mut [u64],
+    /// The places that a salvage cleared.
+    pub list: &'a mut [u16],
+}
+
 /// The lists that a call is lent beside them, which it only reads.
 #[derive(Clone, Copy)]
 pub struct Lists<'a> {

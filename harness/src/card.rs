@@ -3,7 +3,7 @@
 //! A slice crosses as its pointer and its length, and Rust lets no two changed
 //! slices overlap, so a caller of these functions has nothing to get wrong.
 
-use crate::buffers::{Lent, Lists};
+use crate::buffers::{Lent, Lists, Told};
 use crate::engine::Engine;
 
 /// Declares a call of the archive and makes it. What crosses is `read` or
@@ -69,6 +69,10 @@ impl Engine<u64> for Archive {
     }
     fn play(&self, lent: Lent<u64>, lists: Lists) -> u32 {
         cross!(card_play: machine lent, lists lists)
+    }
+    fn salvage(&self, lent: Lent<u64>, told: Told) -> u32 {
+        cross!(card_salvage: write u8 lent.image, write u8 lent.history,
+            write u16 told.list, write u64 told.answer)
     }
     fn rows(&self, picture: &[u8], rows: &mut [u64]) -> u32 {
         cross!(card_rows: read u8 picture, write u64 rows)

@@ -31,6 +31,11 @@ pub enum Call {
         keys: Vec<u16>,
         randoms: Vec<u8>,
     },
+    /// With what stands in the lent list before.
+    Salvage {
+        list: Vec<u16>,
+        answer_length: usize,
+    },
     /// Fills rows from a picture, over what stands in them. Neither is a machine's.
     Rows {
         picture: Vec<u8>,
@@ -47,6 +52,11 @@ pub enum Call {
         part: Part,
         at: usize,
         bytes: Vec<u8>,
+    },
+    /// No call: one bit of the history wears out, and is turned over.
+    Wear {
+        at: usize,
+        bit: u8,
     },
 }
 
@@ -83,8 +93,18 @@ impl Call {
 
     pub fn answer_length(&self) -> usize {
         match self {
-            Call::Step { answer_length, .. } | Call::Run { answer_length, .. } => *answer_length,
+            Call::Step { answer_length, .. }
+            | Call::Run { answer_length, .. }
+            | Call::Salvage { answer_length, .. } => *answer_length,
             _ => 0,
+        }
+    }
+
+    /// What stands in the list that a salvage is lent; no other call is lent one.
+    pub fn list(&self) -> &[u16] {
+        match self {
+            Call::Salvage { list, .. } => list,
+            _ => &[],
         }
     }
 }
@@ -95,6 +115,13 @@ pub fn write_bytes(buffer: &mut [u8], at: usize, bytes: &[u8]) {
         if let Some(spot) = buffer.get_mut(at + offset) {
             *spot = *byte;
         }
+    }
+}
+
+/// The bit that wears out.
+pub fn wear(history: &mut [u8], at: usize, bit: u8) {
+    if let Some(byte) = history.get_mut(at) {
+        *byte ^= 1 << bit;
     }
 }
 
@@ -186,6 +213,15 @@ impl fmt::Display for Call {
                 keys,
                 randoms,
             } => write!(f, "play {}", lists("moves", moves, keys, randoms)),
+            Call::Salvage {
+                list,
+                answer_length,
+            } => write!(
+                f,
+                "salvage with a list of {} numbers [{}] (answer of {answer_length})",
+                list.len(),
+                in_rows(list)
+            ),
             Call::Rows { picture, rows } => write!(
                 f,
                 "rows of {} bytes [{}] over {} numbers [{}]",
@@ -209,6 +245,12 @@ impl fmt::Display for Call {
                     hex(bytes)
                 )
             }
+            Call::Wear { at, bit } => write!(
+                f,
+                "(bit {bit} of byte {} of place {} wears out)",
+                at % PLACE,
+                at / PLACE
+            ),
         }
     }
 }

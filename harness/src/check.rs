@@ -3,8 +3,8 @@
 
 use std::fmt;
 
-use crate::buffers::{Buffers, Host, Lent, Lists, Part, PARTS};
-use crate::case::{hex, write_bytes, Call, Case};
+use crate::buffers::{Buffers, Host, Lent, Lists, Part, Told, PARTS};
+use crate::case::{hex, wear, write_bytes, Call, Case};
 use crate::engine::{Engine, Second};
 use crate::guard::{Guarded, Item};
 use crate::plain_list::PlainList;
@@ -40,6 +40,10 @@ pub fn check(engine: &dyn Engine<u64>, case: &Case, tally: &mut Tally) -> Result
                 sides.write(*part, *at, bytes);
                 continue;
             }
+            Call::Wear { at, bit } => {
+                sides.wear(*at, *bit);
+                continue;
+            }
             Call::Rows { picture, rows } => check_rows(engine, picture, rows).map(|came| came.0),
             Call::Bytes { rows, picture } => check_bytes(engine, rows, picture).map(|came| came.0),
             _ => sides.make(engine, call),
@@ -64,17 +68,18 @@ pub fn make<Item>(
     call: &Call,
     lists: Lists,
     lent: Lent<Item>,
-    answer: &mut [u64],
+    told: Told,
 ) -> u32 {
     match call {
         Call::Load { edition, .. } => engine.load(lent, lists.first, *edition),
-        Call::Step { keys, random, .. } => engine.step(lent, *keys, *random, answer),
+        Call::Step { keys, random, .. } => engine.step(lent, *keys, *random, told.answer),
         Call::Tick => engine.tick(lent),
         Call::Back => engine.back(lent),
         Call::Forward => engine.forward(lent),
-        Call::Run { .. } => engine.run(lent, lists, answer),
+        Call::Run { .. } => engine.run(lent, lists, told.answer),
         Call::Play { .. } => engine.play(lent, lists),
-        Call::Rows { .. } | Call::Bytes { .. } | Call::Write { .. } => {
+        Call::Salvage { .. } => engine.salvage(lent, told),
+        Call::Rows { .. } | Call::Bytes { .. } | Call::Write { .. } | Call::Wear { .. } => {
             unreachable!("no call on a machine")
         }
     }
@@ -157,12 +162,20 @@ impl Sides {
         self.lit_is_true = lit_is_true(&self.expected);
     }
 
+    fn wear(&mut self, at: usize, bit: u8) {
+        wear(&mut self.expected.history, at, bit);
+        wear(self.got.history.lent(), at, bit);
+        self.list = None;
+    }
+
     /// Makes one call on both sides and compares all that it left.
     fn make(&mut self, engine: &dyn Engine<u64>, call: &Call) -> Result<u32, String> {
         let lists = call.lists();
         let lent = LentLists::new(&lists);
         let mut expected_answer = vec![UNWRITTEN; call.answer_length()];
         let mut answer = Guarded::new(&expected_answer);
+        let mut expected_list = call.list().to_vec();
+        let mut list = Guarded::new(&expected_list);
         let mut rows = Guarded::new(&rows_of(self.got.picture.contents()));
 
         let refusal = make(
@@ -175,7 +188,10 @@ impl Sides {
                 picture: rows.lent(),
                 history: self.got.history.lent(),
             },
-            answer.lent(),
+            Told {
+                answer: answer.lent(),
+                list: list.lent(),
+            },
         );
         lent.compare(&lists)?;
         compare_guards("rows", &rows)?;
@@ -186,13 +202,17 @@ impl Sides {
             call,
             lists,
             self.expected.lend(),
-            &mut expected_answer,
+            Told {
+                answer: &mut expected_answer,
+                list: &mut expected_list,
+            },
         );
 
         if expected != refusal {
             return Err(format!("refusal: expected {expected}, got {refusal}"));
         }
         compare_answer(&expected_answer, &answer)?;
+        compare_buffer("list", &expected_list, &list)?;
         for (part, name) in PARTS {
             compare_buffer(name, self.expected.part(*part), self.got.part(*part))?;
         }

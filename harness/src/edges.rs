@@ -1,7 +1,7 @@
 //! Obeys the script of the edge cases, cases/edges.txt, whose head says what its
 //! words mean. Every engine makes each call, and all must leave the same.
 
-use crate::buffers::{Host, PARTS};
+use crate::buffers::{Host, Told, PARTS};
 use crate::card::Archive;
 use crate::case::{hex, Call, Case};
 use crate::check::{check, check_page, check_panel, make, Filled, UNWRITTEN};
@@ -18,7 +18,7 @@ const ENGINES: [&dyn Engine<u64>; 2] = [&Archive, &Tuned];
 
 /// The buffers by name: how many bytes there are, one more than any call takes,
 /// and how many of them are lent unless the script says otherwise.
-const BUFFERS: [(&str, usize, usize); 12] = [
+const BUFFERS: [(&str, usize, usize); 13] = [
     ("image", IMAGE + 1, IMAGE),
     ("memory", MEMORY + 1, MEMORY),
     // Bytes for one row more.
@@ -26,15 +26,19 @@ const BUFFERS: [(&str, usize, usize); 12] = [
     ("history", HISTORY_MOST + 1, 3 * PLACE),
     ("panel", dots::PANEL + 1, dots::PANEL),
     ("page", PICTURE + 1, PICTURE),
-    // Of rows and of an answer only the length counts, in numbers.
+    // Of rows, of an answer and of a list only the length counts, in numbers.
     ("rows", ROWS + 1, ROWS),
     ("answer", ANSWER + 1, ANSWER),
+    ("list", LIST + 1, 6),
     // Of a list each call says how much it is lent.
     ("program", LIST_MOST + 1, 0),
     ("ticks", LIST_MOST + 1, 0),
     ("moves", LIST_MOST + 1, 0),
     ("randoms", LIST_MOST + 1, 0),
 ];
+
+/// How many numbers the list of a salvage needs at most.
+const LIST: usize = 2 * (HISTORY_MOST / PLACE);
 
 /// The words for moves, and their bytes.
 const MOVES: [(&str, &str); 4] = [
@@ -171,6 +175,8 @@ struct Desk {
     buffers: Vec<Buffer>,
     /// What the calls rows and bytes are lent. No machine's picture stands here.
     rows: Vec<u64>,
+    /// What a salvage is lent.
+    list: Vec<u16>,
     keys: Vec<u16>,
     calls: usize,
 }
@@ -197,6 +203,7 @@ impl Desk {
         let mut desk = Desk {
             buffers: BUFFERS.map(buffer).into(),
             rows: vec![0; ROWS + 1],
+            list: vec![0; LIST + 1],
             keys: vec![0; LIST_MOST + 1],
             calls: 0,
         };
@@ -287,6 +294,10 @@ impl Desk {
                 keys: first(&self.keys, keys)?,
                 randoms: first(&self.known("randoms").bytes, randoms)?,
             },
+            ["salvage"] => Call::Salvage {
+                list: self.list[..self.known("list").lent].to_vec(),
+                answer_length: self.lent("answer").len(),
+            },
             _ => return Err("these words mean nothing".to_string()),
         })
     }
@@ -319,6 +330,7 @@ impl Desk {
         match name {
             "keys" => write(&mut self.keys, at, &numbers(values)?),
             "rows" => write(&mut self.rows, at, &numbers(values)?),
+            "list" => write(&mut self.list, at, &numbers(values)?),
             "picture" => {
                 write(&mut self.buffer(name)?.bytes, at, &numbers(values)?)?;
                 self.count_lit()
@@ -383,7 +395,13 @@ impl Desk {
         let mut case = self.on_every_engine(call)?;
         let call = &case.calls[0];
         let mut answer = vec![UNWRITTEN; call.answer_length()];
-        let refusal = make(&Second, call, call.lists(), case.start.lend(), &mut answer);
+        let mut list = call.list().to_vec();
+        let told = Told {
+            answer: &mut answer,
+            list: &mut list,
+        };
+        let refusal = make(&Second, call, call.lists(), case.start.lend(), told);
+        self.list[..list.len()].copy_from_slice(&list);
         for (part, name) in PARTS {
             self.keep(name, case.start.part(*part));
         }
@@ -496,6 +514,7 @@ impl Desk {
         let range = first..first + count;
         let shown = match name {
             "rows" => self.rows.get(range).map(hex),
+            "list" => self.list.get(range).map(hex),
             _ => self.buffer(name)?.bytes.get(range).map(hex),
         };
         Ok(format!(

@@ -1,6 +1,6 @@
 //! One shape for every engine, so that any two of them can be compared.
 
-use crate::buffers::{Lent, Lists};
+use crate::buffers::{Lent, Lists, Told};
 use crate::rows;
 use crate::second::{self, Machine, Refusal, IMAGE};
 
@@ -12,6 +12,9 @@ pub const ACCEPTED: usize = 0;
 pub const WENT_DARK: usize = 1;
 /// Where a run writes how many bytes its records keep.
 pub const COPIED: usize = 2;
+/// Where a salvage writes how many records it kept and how many places it cleared.
+pub const RECORDS_KEPT: usize = 0;
+pub const PLACES_CLEARED: usize = 1;
 
 /// The calls on a machine, and the turning of a picture. Each answers the refusal
 /// number, 0 for done. The picture of a machine is lent as rows (`u64`), or as
@@ -25,6 +28,7 @@ pub trait Engine<Item> {
     fn forward(&self, lent: Lent<Item>) -> u32;
     fn run(&self, lent: Lent<Item>, lists: Lists, answer: &mut [u64]) -> u32;
     fn play(&self, lent: Lent<Item>, lists: Lists) -> u32;
+    fn salvage(&self, lent: Lent<Item>, told: Told) -> u32;
     fn rows(&self, picture: &[u8], rows: &mut [u64]) -> u32;
     fn bytes(&self, rows: &[u64], picture: &mut [u8]) -> u32;
 }
@@ -115,6 +119,20 @@ impl Engine<u8> for Second {
                 lists.keys,
                 lists.randoms,
             ))
+        })
+    }
+    fn salvage(&self, lent: Lent<u8>, told: Told) -> u32 {
+        if told.answer.len() != ANSWER {
+            return WRONG_LENGTH;
+        }
+        told.answer.fill(0);
+        with_machine(lent, |machine, lent| {
+            let outcome = second::salvage(machine, lent.history, told.list);
+            if let Ok(salvaged) = &outcome {
+                told.answer[RECORDS_KEPT] = salvaged.kept;
+                told.answer[PLACES_CLEARED] = salvaged.cleared;
+            }
+            number(outcome.map(drop))
         })
     }
     fn rows(&self, picture: &[u8], rows: &mut [u64]) -> u32 {

@@ -134,7 +134,20 @@ impl PlainList {
                 }
                 refusal
             }
-            Call::Load { .. } | Call::Write { .. } => unreachable!("both end a list"),
+            Call::Salvage {
+                list,
+                answer_length,
+            } => {
+                if *answer_length != ANSWER || list.len() < 2 * self.places {
+                    return Refusal::Length as u32;
+                }
+                // Nothing has worn, so only what is ahead goes.
+                self.states.truncate(self.finger + 1);
+                0
+            }
+            Call::Load { .. } | Call::Write { .. } | Call::Wear { .. } => {
+                unreachable!("each ends a list")
+            }
             Call::Rows { .. } | Call::Bytes { .. } => unreachable!("no call on a machine"),
         }
     }

@@ -867,6 +867,72 @@ fn is_damaged(record: &[u8], present_depth: u8) -> bool {
         || (record[291] != STEP && record[291] != TICK)
 }
 
+// ---- Salvage a worn history (Q-12) -----------------------------------------
+
+/// What a salvage reports of a place that it cleared: as what it had counted.
+pub const WAS_KEPT: u16 = 0;
+pub const WAS_AHEAD: u16 = 1;
+pub const WAS_FREE: u16 = 2;
+
+/// What a salvage reports beside its list.
+pub struct Salvaged {
+    pub kept: u64,
+    pub cleared: u64,
+}
+
+/// Keeps the longest row of sound records and clears every other place. The list
+/// has two numbers an entry: a place, and as what it had counted.
+pub fn salvage(
+    machine: &mut Machine,
+    history: &mut [u8],
+    list: &mut [u16],
+) -> Result<Salvaged, Refusal> {
+    let r = places(history);
+    test_history_length(history)?;
+    test(list.len() >= 2 * r, Refusal::Length)?;
+    test_state(machine, history)?;
+
+    // The kept places stand before next, the newest first; those ahead from next on.
+    let next = usize::from(machine.next);
+    let kept: Vec<usize> = (1..=usize::from(machine.kept))
+        .map(|back| (next + r - back) % r)
+        .collect();
+    let ahead: Vec<usize> = (0..usize::from(machine.ahead))
+        .map(|on| (next + on) % r)
+        .collect();
+
+    let mut row = Vec::new();
+    let mut newer_depth = machine.depth;
+    for &place in &kept {
+        let record = &history[PLACE * place..PLACE * (place + 1)];
+        if is_damaged(record, newer_depth) {
+            break;
+        }
+        newer_depth = record[22];
+        row.push(place);
+    }
+
+    let mut entries = list.chunks_exact_mut(2);
+    for place in (0..r).filter(|place| !row.contains(place)) {
+        history[PLACE * place..PLACE * (place + 1)].fill(0);
+        let entry = entries.next().expect("an entry for each place");
+        entry[0] = place as u16;
+        entry[1] = if kept.contains(&place) {
+            WAS_KEPT
+        } else if ahead.contains(&place) {
+            WAS_AHEAD
+        } else {
+            WAS_FREE
+        };
+    }
+    machine.kept = row.len() as u16;
+    machine.ahead = 0;
+    Ok(Salvaged {
+        kept: row.len() as u64,
+        cleared: (r - row.len()) as u64,
+    })
+}
+
 // ---- The image ------------------------------------------------------------
 
 pub const IMAGE: usize = 64;

@@ -3,8 +3,8 @@
 
 use std::time::{Duration, Instant};
 
-use crate::buffers::{Host, PARTS};
-use crate::case::{write_bytes, Call, Case};
+use crate::buffers::{Host, Told, PARTS};
+use crate::case::{wear, write_bytes, Call, Case};
 use crate::check::make;
 use crate::engine::Second;
 use crate::second::{FIRST_EDITION, PLACE};
@@ -134,7 +134,14 @@ impl Shrinker<'_> {
                     _ => unreachable!("the call stays a write"),
                 });
             }
-            Call::Tick | Call::Back | Call::Forward => {}
+            Call::Salvage { list, .. } => {
+                let length = list.len();
+                self.clear(length, move |case| match &mut case.calls[number] {
+                    Call::Salvage { list, .. } => list,
+                    _ => unreachable!("the call stays a salvage"),
+                });
+            }
+            Call::Tick | Call::Back | Call::Forward | Call::Wear { .. } => {}
         }
     }
 
@@ -243,11 +250,15 @@ impl Shrinker<'_> {
 fn make_on(host: &mut Host, call: &Call) {
     match call {
         Call::Write { part, at, bytes } => write_bytes(host.part_mut(*part), *at, bytes),
+        Call::Wear { at, bit } => wear(&mut host.history, *at, *bit),
         // They leave the host's machine.
         Call::Rows { .. } | Call::Bytes { .. } => {}
         _ => {
-            let mut answer = vec![0; call.answer_length()];
-            make(&Second, call, call.lists(), host.lend(), &mut answer);
+            let told = Told {
+                answer: &mut vec![0; call.answer_length()],
+                list: &mut call.list().to_vec(),
+            };
+            make(&Second, call, call.lists(), host.lend(), told);
         }
     }
 }

@@ -5,8 +5,8 @@ use std::fmt;
 
 use crate::case::Call;
 
-const CALLS: [&str; 9] = [
-    "load", "step", "tick", "back", "forward", "run", "play", "rows", "bytes",
+const CALLS: [&str; 10] = [
+    "load", "step", "tick", "back", "forward", "run", "play", "salvage", "rows", "bytes",
 ];
 /// 0 for done, then the refusals 1 to 12.
 const REFUSALS: usize = 13;
@@ -52,9 +52,10 @@ fn row(call: &Call) -> usize {
         Call::Forward => 4,
         Call::Run { .. } => 5,
         Call::Play { .. } => 6,
-        Call::Rows { .. } => 7,
-        Call::Bytes { .. } => 8,
-        Call::Write { .. } => unreachable!("no call"),
+        Call::Salvage { .. } => 7,
+        Call::Rows { .. } => 8,
+        Call::Bytes { .. } => 9,
+        Call::Write { .. } | Call::Wear { .. } => unreachable!("no call"),
     }
 }
 

@@ -3,7 +3,7 @@
 //!
 //! A step is judged before anything is written, and nothing is allocated.
 
-use crate::buffers::{Lent, Lists};
+use crate::buffers::{Lent, Lists, Told};
 use crate::engine::Engine;
 
 const MEMORY: usize = 4096;
@@ -723,7 +723,30 @@ fn fetch(memory: &Memory, i: usize, x: usize, v: &mut Registers) {
     v.0 = v.0 & !up_to(x) | u128::from_be_bytes(bytes) & up_to(x);
 }
 
-// ---- The nine calls -------------------------------------------------------
+/// Whether a record is damaged beside a state of that depth. A back tests the
+/// same as it goes, and this is for a salvage, where speed does not count.
+fn is_damaged(record: &Place, present_depth: u8) -> bool {
+    let depth = record[22];
+    let held = record[27];
+    let start = usize::from(number(record, 28));
+    let count = usize::from(number(record, 30));
+    let end = start + count;
+    let fits = match [record[0], record[1]] {
+        [b'N', b'O'] => end == 0,
+        [b'M', b'E'] => (1..=16).contains(&count) && end <= MEMORY,
+        [b'D', b'I'] => (1..=256).contains(&count) && end <= PICTURE,
+        _ => false,
+    };
+    let sound = fits
+        && depth <= 12
+        && depth.abs_diff(present_depth) <= 1
+        && (depth > 0 || number(record, 23) == 0)
+        && (held <= 15 || held == NO_KEY)
+        && record[PLACE - 1] <= 1;
+    !sound
+}
+
+// ---- The ten calls --------------------------------------------------------
 
 /// The hand-tuned rival of the measurements.
 pub struct Tuned;
@@ -929,6 +952,56 @@ impl Engine<u64> for Tuned {
         }
         work.write(lent.image);
         refusal
+    }
+
+    fn salvage(&self, lent: Lent<u64>, told: Told) -> u32 {
+        let Ok(answer) = <&mut [u64; ANSWER]>::try_from(told.answer) else {
+            return LENGTH;
+        };
+        *answer = [0; ANSWER];
+        let image = <&mut Image>::try_from(lent.image);
+        let (Ok(image), Some(places)) = (image, places_of(lent.history)) else {
+            return LENGTH;
+        };
+        let count = places.len();
+        if told.list.len() < 2 * count {
+            return LENGTH;
+        }
+        let Some(mut work) = Work::read(image, count) else {
+            return UNSOUND;
+        };
+        let mut row = 0;
+        let mut depth = work.depth;
+        while row < work.kept {
+            let record = &places[(work.next + count - 1 - row) % count];
+            if is_damaged(record, depth) {
+                break;
+            }
+            depth = record[22];
+            row += 1;
+        }
+        let mut cleared = 0;
+        for (at, place) in places.iter_mut().enumerate() {
+            // How many places it stands behind next, and how many on from it.
+            let on = (at + count - work.next) % count;
+            let behind = count - 1 - on;
+            if behind >= row {
+                place.fill(0);
+                told.list[2 * cleared] = at as u16;
+                told.list[2 * cleared + 1] = if behind < work.kept {
+                    0
+                } else if on < work.ahead {
+                    1
+                } else {
+                    2
+                };
+                cleared += 1;
+            }
+        }
+        (work.kept, work.ahead) = (row, 0);
+        work.write(image);
+        answer[..2].copy_from_slice(&[row as u64, cleared as u64]);
+        0
     }
 
     fn rows(&self, picture: &[u8], rows: &mut [u64]) -> u32 {

@@ -7,7 +7,7 @@ use harness::tally::Tally;
 use harness::tuned::Tuned;
 
 /// Every number that each call can give.
-const NUMBERS: [(&str, &[usize]); 9] = [
+const NUMBERS: [(&str, &[usize]); 10] = [
     ("load", &[0, 8, 9, 10]),
     ("step", &[0, 1, 2, 3, 4, 5, 6, 9, 10]),
     ("tick", &[0, 9, 10]),
@@ -15,6 +15,7 @@ const NUMBERS: [(&str, &[usize]); 9] = [
     ("forward", &[0, 1, 2, 3, 4, 5, 6, 9, 10, 11, 12]),
     ("run", &[0, 1, 2, 3, 4, 5, 6, 9, 10]),
     ("play", &[0, 1, 2, 3, 4, 5, 6, 7, 9, 10, 11, 12]),
+    ("salvage", &[0, 9, 10]),
     ("rows", &[0, 9]),
     ("bytes", &[0, 9]),
 ];

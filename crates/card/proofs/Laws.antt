@@ -4,7 +4,10 @@ use mathlib.Core.List.{List, [], _∷_}
 use Prim.Native.Nat.{ℕ}
 use native.Mathlib.Omega.{arith}
 use lib.ListN.{length, set}
+use Rattle.image.specs.Image.{trailOf}
 use Rattle.imaged.specs.Imaged.{Leaves}
+use Rattle.imaged_salvage.specs.Salvaged.{LeavesSalvage}
+use Rattle.salvage.specs.Salvage.{refused}
 use Rattle.card.specs.Card.{untouched}
 
 pub four : (l : List ℕ) (a b c d : ℕ) → length l ≡ 4 → set (set (set (set l 0 a) 1 b) 2 c) 3 d ≡ a ∷ b ∷ c ∷ d ∷ []
@@ -17,3 +20,6 @@ four (w ∷ x ∷ y ∷ z ∷ u ∷ l) a b c d e = absurd (omega arith)
 
 pub as-it-came : (n : ℕ) (image mem pic his : List ℕ) → Leaves (untouched n image mem pic his) n image mem pic his
 as-it-came n image mem pic his = record { says = refl; image = refl; memory = refl; picture = refl; history = refl }
+
+pub salvage-as-it-came : (image his lst : List ℕ) → LeavesSalvage image (refused 9 (trailOf image) his lst) 9 image his lst
+salvage-as-it-came image his lst = record { says = refl; image = refl; history = refl; list = refl }

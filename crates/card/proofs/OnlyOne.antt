@@ -1,11 +1,13 @@
--- The boundary's promises are tight: two results that one call allows are equal, the answer of a step or a run, the page, the panel and the
--- two forms of the picture included.
+-- The boundary's promises are tight: two results that one call allows are equal, the answer of a step, a run or a salvage, the list, the page,
+-- the panel and the two forms of the picture included.
 use mathlib.Core.Path.{_≡_, sym, ap, _∙_}
 use mathlib.Core.List.{List}
 use Prim.Native.Nat.{ℕ}
 use lib.Dec.{eqb}
 use Rattle.rules.specs.Number.{pick}
 use Rattle.imaged.specs.Imaged.{Card}
+use Rattle.imaged_salvage.specs.Salvaged.{LeavesSalvage}
+use Rattle.salvage.specs.Salvage.{Salvage}
 use Rattle.imaged.proofs.OnlyOne.{Result, Typed, Left, only-one}
 use Rattle.card.specs.Card.{answered, LeavesPage, LeavesPanel, LeavesRows, LeavesBytes}
 
@@ -23,6 +25,13 @@ module _ (c : Card) (r s : Result) (b : Typed r) (d : Typed s) where
       → Left c r → x ≡ answered accepted dark copied before → Left c s → y ≡ answered accepted dark copied before
       → (r ≡ s) × (x ≡ y)
   only-one-run accepted dark copied before x y g p h q = (only-one c r s b d g h, p ∙ sym q)
+
+pub only-one-salvage : (image : List ℕ) (s : Salvage) (first second : ℕ) (before : List ℕ) (n k : ℕ) (img img′ his his′ lst lst′ x y : List ℕ)
+    → LeavesSalvage image s n img his lst → x ≡ answered first second 0 before
+    → LeavesSalvage image s k img′ his′ lst′ → y ≡ answered first second 0 before
+    → (n ≡ k) × (img ≡ img′) × (his ≡ his′) × (lst ≡ lst′) × (x ≡ y)
+only-one-salvage image s first second before n k img img′ his his′ lst lst′ x y g p h q =
+    (g .says ∙ sym (h .says), g .image ∙ sym (h .image), g .history ∙ sym (h .history), g .list ∙ sym (h .list), p ∙ sym q)
 
 pub only-one-page : (n k : ℕ) (image before x y : List ℕ) → LeavesPage n image before x → LeavesPage k image before y → (n ≡ k) × (x ≡ y)
 only-one-page n k image before x y g h = (g .says ∙ sym (h .says), g .bytes ∙ sym (h .bytes))

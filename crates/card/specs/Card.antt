@@ -18,8 +18,10 @@ use Rattle.stepper.specs.Dock.{drawRefusal, pageAfter}
 use Rattle.stepper.specs.Dock.{fits as pageFits}
 use Rattle.turning.specs.Turn.{turnRefusal, rowsAfter, bytesAfter}
 use Rattle.panel.specs.Panel.{fits, panelRefusal, panelAfter, PanelOf}
-use Rattle.image.specs.Image.{imageSize, machineOf}
+use Rattle.image.specs.Image.{imageSize, machineOf, trailOf}
 use Rattle.imaged.specs.Imaged.{Card, worldOf, shown, loadBy, whole, ranOn, playedOn}
+use Rattle.imaged_salvage.specs.Salvaged.{salvageOf}
+use Rattle.salvage.specs.Salvage.{Salvage, refused}
 
 abbrev pub sized : List ℕ → Bool
 sized image = eqb (length image) imageSize
@@ -67,14 +69,19 @@ cardPlay moves keys randoms image memory picture history =
     pick (sized image) (playedOn moves keys randoms image memory picture history)
     (untouched (numberOf BufferLength) image memory picture history)
 
--- ---- the answer's four numbers: how many steps were accepted, how many spots they darkened, how many bytes the records of a run keep, and
--- one that is kept for what is to come
+-- a salvage takes neither memory nor picture
+unfoldable pub cardSalvage : Bool → List ℕ → List ℕ → List ℕ → Salvage
+cardSalvage answers image history list =
+    pick (sized image && answers) (salvageOf image history list) (refused (numberOf BufferLength) (trailOf image) history list)
+
+-- ---- the answer's four numbers. Of a step and a run: how many steps were accepted, how many spots they darkened, how many bytes the records of
+-- a run keep, and one that is kept for what is to come. Of a salvage: how many records are kept, how many places cleared, and two zeros
 
 abbrev pub answers : List ℕ → Bool
 answers answer = eqb (length answer) 4
 
 abbrev pub answered : ℕ → ℕ → ℕ → List ℕ → List ℕ
-answered accepted dark copied answer = pick (answers answer) (accepted ∷ dark ∷ copied ∷ 0 ∷ []) answer
+answered first second third answer = pick (answers answer) (first ∷ second ∷ third ∷ 0 ∷ []) answer
 
 unfoldable pub stepWentDark : List ℕ → List ℕ → List ℕ → List ℕ → ℕ
 stepWentDark image memory picture history = pick (sized image) (stepDark (worldOf image memory picture history)) 0

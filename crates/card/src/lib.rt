@@ -9,6 +9,7 @@ ghost use Rattle.rules.specs.Number.{pick};
 ghost use Rattle.rules.specs.Past.{PlayTells};
 ghost use Rattle.rules.specs.Rows.{bytesOf};
 ghost use Rattle.imaged.specs.Imaged.{worldOf, Leaves};
+ghost use Rattle.imaged_salvage.specs.Salvaged.{LeavesSalvage};
 ghost use Rattle.card.specs.Card.{sized, answers, answered, LeavesPage, LeavesPanel, LeavesRows, LeavesBytes};
 ghost use Rattle.card.specs.Card as spec;
 
@@ -16,13 +17,13 @@ ghost use Rattle.card.specs.Card as spec;
 const ANSWER: usize = 4;
 
 // All four numbers of an answer; one of another length is left alone.
-fn put_answer(answer: &mut [u64], accepted: u64, dark: u64, copied: u64)
-    ensures { λ _. ⌜ now (answer .exit) ≡ answered accepted dark copied (now (answer .entry)) ⌝ }
+fn put_answer(answer: &mut [u64], first: u64, second: u64, third: u64)
+    ensures { λ _. ⌜ now (answer .exit) ≡ answered first second third (now (answer .entry)) ⌝ }
 {
     if answer.len() == ANSWER {
-        answer[0] = accepted;
-        answer[1] = dark;
-        answer[2] = copied;
+        answer[0] = first;
+        answer[1] = second;
+        answer[2] = third;
         answer[3] = 0;
     }
 }
@@ -181,6 +182,32 @@ pub extern "C" fn card_play(
         return 9;
     }
     imaged_lists::play(image, memory, rows, history, moves, keys, randoms)
+}
+
+#[no_mangle]
+pub extern "C" fn card_salvage(
+    image: &mut [u8],
+    history: &mut [u8],
+    list: &mut [u16],
+    answer: &mut [u64],
+) -> u32
+    ensures { λ r. ⌜ LeavesSalvage (now (image .entry))
+        (spec.cardSalvage (answers (now (answer .entry))) (now (image .entry)) (now (history .entry)) (now (list .entry))) r
+        (now (image .exit)) (now (history .exit)) (now (list .exit)) ⌝ }
+    ensures { λ r. ⌜ now (answer .exit) ≡ answered
+        ((spec.cardSalvage true (now (image .entry)) (now (history .entry)) (now (list .entry))) .kept)
+        ((spec.cardSalvage true (now (image .entry)) (now (history .entry)) (now (list .entry))) .cleared) 0 (now (answer .entry)) ⌝ }
+{
+    if image.len() != image::IMAGE {
+        put_answer(answer, 0, 0, 0);
+        return 9;
+    }
+    if answer.len() != ANSWER {
+        return 9;
+    }
+    let told = imaged_salvage::salvage(image, history, list);
+    put_answer(answer, told.kept, told.cleared, 0);
+    told.number
 }
 
 #[no_mangle]

@@ -27,9 +27,13 @@ pub use playing::play;
 pub use turning::to_bytes;
 pub use turning::to_rows;
 
-// For what is built above the library: the tests 9 and 10, whether a state is sound, and a line of a digit's published shape.
+// For what is built above the library: the tests 9 and 10, and what they test: a history's length, a state, and the numbers beside it; how many
+// places a history has; and a line of a digit's published shape.
 pub use digits::shape_line;
+pub use judge::history_fits;
 pub use judge::is_sound;
+pub use judge::places;
+pub use judge::soundly;
 pub use judge::tested;
 
 // What they answer beside the buffers that they are lent.

@@ -57,7 +57,7 @@ module _ (b : List ℕ) (size : length b ≡ 64) (small : Below 256 b) where
   two : (k : ℕ) → wordAt b k < 65536
   two k = omega (arith, byte k, byte (k + 1))
 
-  image-typed : TypedMachine (machineOf b)
+  pub image-typed : TypedMachine (machineOf b)
   unfolding machineOf
   image-typed =
       record {

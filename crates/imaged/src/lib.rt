@@ -50,7 +50,7 @@ fn accepted_by(told: u32) -> u64
 // ---- the image after a call
 
 // An accepted call writes the image, and a refused one leaves it.
-fn after_call(image: &mut [u8], answer: Answer) -> u32
+pub fn after_call(image: &mut [u8], answer: Answer) -> u32
     requires { ⌜ length (now image) ≡ imageSize ⌝ }
     ensures { λ r. ⌜ (r ≡ refusal.number (answer .outcome)) × (now (image .exit) ≡ pick (eqb (refusal.number (answer .outcome)) 0)
         (imageOf (answer .machine) (answer .trail)) (now (image .entry))) ⌝ }

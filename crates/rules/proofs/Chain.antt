@@ -88,7 +88,7 @@ clear-other r n k p hn hp (straight x) = by-test (λ (q : ℕ). q ≡ n → ⊥)
 clear-other r n k p hn hp (round h x) = by-test (λ (q : ℕ). q ≡ n → ⊥) p 0 (λ e z. omega arith) (λ e z. omega arith)
 
 module _ (h record′ : List ℕ) (r n : ℕ) (sized : length record′ ≡ 292) (fits : 292 * r ≤ length h) (hn : n < r) where
-  other-place : (p : ℕ) → p < r → (p ≡ n → ⊥) → part (over h (292 * n) record′ 292) (292 * p) 292 ≡ part h (292 * p) 292
+  pub other-place : (p : ℕ) → p < r → (p ≡ n → ⊥) → part (over h (292 * n) record′ 292) (292 * p) 292 ≡ part h (292 * p) 292
   other-place p hp ne = go (ltb p n) refl
     where
       go : (t : Bool) → ltb p n ≡ t → part (over h (292 * n) record′ 292) (292 * p) 292 ≡ part h (292 * p) 292

@@ -34,12 +34,16 @@ module _ (a new : List ℕ) (s n : ℕ) (fits : s + n ≤ length a) (sized : len
       (take-append-le k (drop p (take s a)) l (simp (length-drop, length-take) (omega arith))) in
       rw append-assoc (front (new ++ drop (s + n) a) ∙ sym (front (drop s a)) ∙ ap (λ (l : List ℕ). part l p k) (take-append-drop s a))
 
-  pub part-over-after : (p k : ℕ) → s + n ≤ p → part (over a s new n) p k ≡ part a p k
-  part-over-after p k h =
+  -- and from any element behind them
+  pub over-far : (p : ℕ) → s + n ≤ p → drop p (over a s new n) ≡ drop p a
+  over-far p h =
       let whole : s + n + (p - (s + n)) ≡ p = omega arith in
       let far : (l : List ℕ) → drop (p - (s + n)) (drop (s + n) l) ≡ drop p l =
       λ l. drop-drop (p - (s + n)) (s + n) l ∙ ap (λ (q : ℕ). drop q l) whole in
-      ap (take k) (sym (far (over a s new n)) ∙ ap (drop (p - (s + n))) over-drop ∙ far a)
+      sym (far (over a s new n)) ∙ ap (drop (p - (s + n))) over-drop ∙ far a
+
+  pub part-over-after : (p k : ℕ) → s + n ≤ p → part (over a s new n) p k ≡ part a p k
+  part-over-after p k h = ap (take k) (over-far p h)
 
 -- what is put back is what was there, wherever only those bytes were changed
 pub put-back : (a b : List ℕ) (s n : ℕ) → take s a ≡ take s b → drop (s + n) a ≡ drop (s + n) b → over a s (part b s n) n ≡ b

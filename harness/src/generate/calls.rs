@@ -5,7 +5,9 @@ use crate::buffers::Part;
 use crate::case::Call;
 use crate::engine::ANSWER;
 use crate::random::Random;
-use crate::second::{Machine, LIST_MOST, MOVE_BACK, MOVE_FORWARD, MOVE_STEP, MOVE_TICK, ROWS};
+use crate::second::{
+    Machine, LIST_MOST, MOVE_BACK, MOVE_FORWARD, MOVE_STEP, MOVE_TICK, PLACE, ROWS,
+};
 
 pub fn step(random: &Random) -> Call {
     Call::Step {
@@ -70,6 +72,37 @@ pub fn load(random: &Random) -> Call {
     }
 }
 
+/// A salvage of a history of so many places, with a list of any contents. Now and
+/// then the list is longer than it need be, or too short.
+pub fn salvage(places: usize, random: &Random) -> Call {
+    let needed = 2 * places;
+    let length = match random.within(0..=7) {
+        0 => needed + random.within(1..=9),
+        1 if random.once_in(4) => needed.saturating_sub(random.pick(&[1, 1, 2, places])),
+        _ => needed,
+    };
+    Call::Salvage {
+        list: (0..length).map(|_| random.word()).collect(),
+        answer_length: answer_length(random),
+    }
+}
+
+/// A bit of the history wears out: of one of so many places.
+pub fn wear(places: usize, random: &Random) -> Call {
+    Call::Wear {
+        at: PLACE * random.within(0..=places - 1) + offset(random),
+        bit: random.within(0..=7) as u8,
+    }
+}
+
+/// A byte of a record, more often one that a test looks at.
+fn offset(random: &Random) -> usize {
+    match random.once_in(2) {
+        true => random.pick(&[0, 1, 22, 23, 24, 27, 28, 29, 30, 31, 291]),
+        false => random.within(0..=PLACE - 1),
+    }
+}
+
 /// A turning between bytes and rows. Either length may be wrong, or both.
 pub fn turning(random: &Random) -> Call {
     let mut picture = hosts::picture(random);
@@ -110,7 +143,7 @@ pub fn to_and_fro(most: usize, random: &Random) -> Vec<Call> {
 
 /// Any call at all.
 pub fn any(random: &Random) -> Call {
-    match random.within(0..=8) {
+    match random.within(0..=9) {
         0 => load(random),
         1 | 2 => step(random),
         3 => Call::Tick,
@@ -118,6 +151,7 @@ pub fn any(random: &Random) -> Call {
         5 => Call::Forward,
         6 => run(random.within(0..=5), random),
         7 => play(random.within(0..=5), random),
+        8 => salvage(random.within(0..=4), random),
         _ => {
             let mut call = match random.once_in(2) {
                 true => run(random.within(0..=3), random),

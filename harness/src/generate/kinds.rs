@@ -285,6 +285,65 @@ pub fn false_numbers(random: &Random) -> Case {
     }
 }
 
+/// A program runs, single bits of the history wear out, and it is salvaged: once,
+/// once more on what that gave, and as far back as it goes.
+pub fn worn_history(random: &Random) -> Case {
+    let length = PLACE * random.pick(&[1, 2, 3, 5, 8, 13, 40]) + random.pick(&[0, 0, 1, 291]);
+    let start = empty_host(length);
+    let places = places(&start.history);
+    let mut made = vec![load_of_a_ring(random)];
+    for _ in 0..random.within(1..=4) {
+        made.push(calls::run(random.within(1..=2 * places), random));
+        made.extend(calls::to_and_fro(places, random));
+        for _ in 0..random.pick(&[0, 1, 1, 1, 1, 2, 4]) {
+            made.push(calls::wear(places, random));
+        }
+        made.extend(salvaged(places, random));
+    }
+    Case { start, calls: made }
+}
+
+/// Records of any hand in every place, each fitting the next newer one or nearly
+/// so, and numbers of any reach; then the same.
+pub fn planted_history(random: &Random) -> Case {
+    let start = hosts::sound(random);
+    let places = places(&start.history);
+    let mut made = Vec::new();
+    for _ in 0..random.within(1..=4) {
+        let mut machine = hosts::machine(places, &start.picture, random);
+        hosts::set_reach(&mut machine, places, random);
+        let mut depth = machine.depth;
+        for back in 1..=places {
+            let mut record = records::whole(depth, random);
+            if random.once_in(places + 1) {
+                records::spoil(&mut record, depth, random);
+            }
+            depth = record[22].min(12);
+            made.push(Call::Write {
+                part: Part::History,
+                at: PLACE * ((usize::from(machine.next) + places - back) % places),
+                bytes: record,
+            });
+        }
+        made.push(calls::write_image(&machine));
+        made.extend(salvaged(places, random));
+    }
+    Case { start, calls: made }
+}
+
+/// A salvage, a second one on what it gave, and more backs than it can have kept.
+fn salvaged(places: usize, random: &Random) -> Vec<Call> {
+    let mut made = vec![
+        calls::salvage(places, random),
+        calls::salvage(places, random),
+    ];
+    if random.once_in(2) {
+        made.extend(std::iter::repeat_n(Call::Back, places + 1));
+        made.push(Call::Forward);
+    }
+    made
+}
+
 /// A program that runs for long, in the edition that it is written for.
 fn load_of_a_ring(random: &Random) -> Call {
     let edition = hosts::edition(random);
@@ -318,6 +377,7 @@ fn walk(most: usize, places: usize, random: &Random) -> Vec<Call> {
                 calls::spoil_lists(&mut call, random);
                 made.push(call);
             }
+            13 if random.once_in(8) => made.push(calls::salvage(places, random)),
             _ => made.push(calls::step(random)),
         }
     }

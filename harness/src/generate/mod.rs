@@ -26,6 +26,8 @@ const KINDS: &[(usize, Kind)] = &[
     (8, kinds::walk_of_a_program),
     (4, kinds::walk_of_wild_bytes),
     (6, kinds::false_numbers),
+    (12, kinds::worn_history),
+    (8, kinds::planted_history),
     (4, kinds::short_lists),
     (1, kinds::long_lists),
 ];

@@ -8,7 +8,7 @@ use Rattle.card.proofs.put_answer.Statement.{statement}
 use Rattle.card.proofs.put_answer.Tie as tie
 
 returns : tie.Need-returns
-returns c = rw (eq-eqb _ _ (c .if1 .taken)) (four (c .before .args .answer .now) (c .before .args .accepted) (c .before .args .dark) (c .before .args .copied) 0 (c .if1 .taken))
+returns c = rw (eq-eqb _ _ (c .if1 .taken)) (four (c .before .args .answer .now) (c .before .args .first) (c .before .args .second) (c .before .args .third) 0 (c .if1 .taken))
 
 returns-2 : tie.Need-returns-2
 returns-2 c = rw (ne-eqb _ _ (c .if1 .left))

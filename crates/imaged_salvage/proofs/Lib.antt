@@ -1,0 +1,3 @@
+-- What a salvage gave, seen through the image.
+pub mod Seen
+pub mod Chains

@@ -1,0 +1,2 @@
+-- A salvage beside an image.
+pub mod Salvaged

@@ -1,0 +1,2 @@
+-- Request Q-12: which records of a worn history are kept.
+pub mod Row
