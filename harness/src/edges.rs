@@ -7,8 +7,8 @@ use crate::case::{hex, Call, Case};
 use crate::check::{check, check_page, check_panel, make, Filled, UNWRITTEN};
 use crate::engine::{Engine, Second, ANSWER};
 use crate::second::{
-    lit_spots, Machine, BYTES_A_ROW, FIRST_EDITION, FULL_END, HISTORY_MOST, IMAGE, LATER, LIST_MOST, MEMORY,
-    PICTURE, PLACE, ROWS,
+    lit_spots, Machine, BYTES_A_ROW, FIRST_EDITION, FULL_END, HISTORY_MOST, IMAGE, LATER,
+    LIST_MOST, MEMORY, PICTURE, PLACE, ROWS,
 };
 use crate::tally::Tally;
 use crate::{dots, tuned::Tuned};

@@ -162,11 +162,9 @@ impl Work {
         let ahead = usize::from(number(image, 54));
         // The number, the end, and four bytes for later use, which come to stand
         // above the number, so that one test is enough for them and it.
-        let last = image.last_chunk().expect("64 bytes hold 8");
-        let [high, low, end_high, end_low, ..] = *last;
-        let later = u64::from_be_bytes(*last) << 32;
-        let lit = later | u64::from(u16::from_be_bytes([high, low]));
-        let end = u16::from_be_bytes([end_high, end_low]);
+        let last = u64::from_be_bytes(*image.last_chunk().expect("64 bytes hold 8"));
+        let lit = last << 32 | last >> 48;
+        let end = (last >> 32) as u16;
         let sound = depth <= 12
             && entries_from(&stack, depth) == 0
             && (held <= 15 || held == NO_KEY)

@@ -41,7 +41,10 @@ fn host() -> Host {
         history: vec![0; PLACES * PLACE + 5],
     };
     let program: Vec<u8> = PROGRAM.iter().flat_map(|word| word.to_be_bytes()).collect();
-    assert_eq!(Second.load(host.lend(), &program, FIRST_EDITION, FULL_END), 0);
+    assert_eq!(
+        Second.load(host.lend(), &program, FIRST_EDITION, FULL_END),
+        0
+    );
     host.history[PLACES * PLACE..].fill(0x3C);
     for _ in 0..7 {
         assert_eq!(Second.step(host.lend(), 0, 0, &mut [0; ANSWER]), 0);

@@ -14,7 +14,8 @@ use harness::card::{self, Archive};
 use harness::dots::PANEL;
 use harness::engine::{Engine, ACCEPTED, ANSWER};
 use harness::second::{
-    FIRST_EDITION, FULL_END, HISTORY_MOST, IMAGE, LIST_MOST, MEMORY, PICTURE, PLACE, ROWS, SECOND_EDITION,
+    FIRST_EDITION, FULL_END, HISTORY_MOST, IMAGE, LIST_MOST, MEMORY, PICTURE, PLACE, ROWS,
+    SECOND_EDITION,
 };
 use harness::tuned::Tuned;
 

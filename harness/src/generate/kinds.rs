@@ -231,7 +231,7 @@ pub fn deep_calls(random: &Random) -> Case {
     start.image = machine.to_image().to_vec();
     for at in (0..MEMORY).step_by(2) {
         let word = match random.within(0..=4) {
-            0 | 1 => 0x2000 | random.word() & 0x0FFE,
+            0 | 1 => 0x2000 | random.word() % machine.end & 0x0FFE,
             2 | 3 => 0x00EE,
             _ => 0x6000 | random.word() & 0x0FFF,
         };
