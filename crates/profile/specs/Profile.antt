@@ -43,7 +43,7 @@ NumberNotRead number =
     (w : World) → Sixteen w → let end = w .machine .end in
     (bytes : List ℕ) → length bytes ≡ length (above end w) → number (withAbove end bytes w) ≡ number w
 
--- ---- THE CLAIMS, proved in proofs/Profile.antt
+-- ---- THE CLAIMS, proved in proofs/Profile.antt and proofs/Numbers.antt
 
 -- whatever a load answers, it hands back its end where that is in use, and else 4,096
 abbrev pub LoadEnds : Type 0
