@@ -1,16 +1,16 @@
 # shellcheck shell=sh disable=SC2154
 # Read by ./trace and ./panel. Runs a program of the house on a CHIP-8 program: the proved one where it is built, and else the same
 # source without proof. They set root, the folder of the house, and program, the crate to run; introduce says what is shown where
-# no CHIP-8 program is named, and default is the one that is shown then. They may set option, a word that goes on to the program.
+# no CHIP-8 program is named, and default is the one that is shown then. options has the words that go on to the program.
 here=$(pwd)
 . "$root/.ci/proved.sh"
 
 prove=no
-word=''
+words=''
 while [ $# -gt 0 ]; do
     case $1 in
     --prove) prove=yes ;;
-    --*) [ "$1" = "${option:-}" ] || break; word=$1 ;;
+    --*) case " ${options:-} " in *" $1 "*) words="$words $1" ;; *) break ;; esac ;;
     *) break ;;
     esac
     shift
@@ -80,7 +80,8 @@ run_unproved() {
     { mkdir "$work/crates" && cp "$root/crates.txt" "$work/"; } || die "cannot copy the sources"
     for crate in "$root"/crates/*; do [ "${crate##*/}" = "$program" ] || ln -s "$crate" "$work/crates/"; done
     { mkdir "$trial" && cp -R "$root/crates/$program/src" "$trial/" && cp "$file" "$trial/stdin"; } || die "cannot copy the sources"
-    [ -z "$word" ] || echo "$word" >"$trial/args"
+    # shellcheck disable=SC2086
+    [ -z "$words" ] || printf '%s\n' $words >"$trial/args"
     : >"$trial/stdout"
     until (cd "$work" && "$rt" try "$program") >"$work/said" 2>&1; do
         more=$(sed -n 's/^on standard output, at byte [0-9]*, expected "", found "\([^"]*\)".*/\1/p' "$work/said" | head -n 1)
@@ -95,4 +96,5 @@ if [ "$prove" = yes ] && ! current; then
     [ "$(cat "$work/ended")" = 0 ] || die "it is not proved: 'rt check $program' says why"
     touch "$built"
 fi
-if current; then run_proved "$program" "$file" "$word"; else run_unproved; fi
+# shellcheck disable=SC2086
+if current; then run_proved "$program" "$file" $words; else run_unproved; fi

@@ -29,12 +29,15 @@ find_emulator() {
 }
 
 # The proved program stands in target/bin, where rt check and rt ci put it.
-run_proved() { # PROGRAM FILE [WORD]
+run_proved() { # PROGRAM FILE [WORDS]
     find_emulator
+    binary=$root/target/bin/$1
+    input=$2
+    shift 2
     loader=$tools/lib/ld-linux-x86-64.so.2
     if [ -f "$loader" ]; then
-        ${emulator:+"$emulator"} "$loader" --library-path "$tools/lib" "$root/target/bin/$1" ${3:+"$3"} <"$2"
+        ${emulator:+"$emulator"} "$loader" --library-path "$tools/lib" "$binary" "$@" <"$input"
     else
-        ${emulator:+"$emulator"} "$root/target/bin/$1" ${3:+"$3"} <"$2"
+        ${emulator:+"$emulator"} "$binary" "$@" <"$input"
     fi
 }

@@ -8,7 +8,8 @@
  * more turn rows into bytes and bytes into rows. A tenth turns those bytes into
  * the ones of the card's own panel, an eleventh draws a page of the variables,
  * for a dock that shows the game or its insides, and a twelfth salvages a history
- * in which cells have worn. A load chooses the edition of the instruction set.
+ * in which cells have worn. A load chooses the edition of the instruction set and
+ * where memory ends.
  *
  * THE BUFFERS
  *
@@ -17,7 +18,8 @@
  *
  *   image    64 bytes      registers, stack, timers, history numbers and the
  *                          number of lit spots
- *   memory   4,096 bytes   the program and its data
+ *   memory   4,096 bytes   the program and its data; also in the 2K profile, which
+ *                          leaves those from 06A0 on alone
  *   rows     32 numbers    64 by 32 spots, a number of 64 bits for each row, top
  *                          row first, the highest bit leftmost, 1 for a lit spot
  *   history  292 to 65,536 bytes, a place of 292 bytes for each action that can
@@ -82,6 +84,15 @@
  * otherwise than bytes do. card_rows and card_bytes turn one into the other, and
  * nothing is lost either way.
  *
+ * THE END OF MEMORY
+ *
+ * A load chooses where memory ends, and no other call changes it: at 1000 (4,096
+ * bytes), or at 06A0 (1,696 bytes) for the small VIP of 2 KB. The program counter,
+ * what an instruction needs of memory, and the bytes that a record puts back are
+ * held against that end. Lent memory has 4,096 bytes in both. Above the end it is
+ * 0 after an accepted load, and from then on no call writes there, and none
+ * answers otherwise for what stands there.
+ *
  * THE LIT SPOTS
  *
  * The image holds the number of lit spots, 0 to 2,048, so that a brightness
@@ -114,8 +125,8 @@
  *   uint64_t answer[CARD_ANSWER] = {0};   (and this one's is CARD_ANSWER)
  *   const uint8_t program[] = {0x60, 0x05, 0x70, 0x03};   (V0 = 5, V0 += 3)
  *
- *   card_load(program, sizeof program, CARD_FIRST_EDITION, image,
- *             sizeof image, memory, sizeof memory, rows, CARD_ROWS,
+ *   card_load(program, sizeof program, CARD_FIRST_EDITION, CARD_FULL_END,
+ *             image, sizeof image, memory, sizeof memory, rows, CARD_ROWS,
  *             history, sizeof history);
  *   card_step(image, sizeof image, memory, sizeof memory, rows, CARD_ROWS,
  *             history, sizeof history, 0, 0, answer, CARD_ANSWER);
@@ -175,7 +186,8 @@ extern "C" {
 #define CARD_PLACES_MOST 224
 #define CARD_START 0x0200
 #define CARD_PROGRAM_LEAST 1
-#define CARD_PROGRAM_MOST 3584
+#define CARD_PROGRAM_MOST 3584 /* with the full memory */
+#define CARD_SMALL_PROGRAM_MOST 1184 /* with the small one */
 #define CARD_STACK 12
 #define CARD_RUN_MOST 4096
 #define CARD_PLAY_MOST 4096
@@ -191,17 +203,19 @@ extern "C" {
 
 enum card_refusal {
     CARD_DONE = 0,             /* not refused */
-    CARD_PROGRAM_COUNTER = 1,  /* PC above 4,094 */
+    CARD_PROGRAM_COUNTER = 1,  /* PC above the end of memory less 2 */
     CARD_NOT_LISTED = 2,       /* an instruction that the edition has not */
     CARD_MACHINE_LANGUAGE = 3, /* 0MMM other than 00E0 and 00EE */
     CARD_STACK_FULL = 4,       /* a call at depth 12 */
     CARD_STACK_EMPTY = 5,      /* a return at depth 0 */
-    CARD_PAST_MEMORY = 6,      /* I and the bytes needed pass 4,096 */
+    CARD_PAST_MEMORY = 6,      /* I and the bytes needed pass that end */
     CARD_NOTHING_KEPT = 7,     /* a back with kept 0 */
-    CARD_PROGRAM_LENGTH = 8,   /* a program of 0 or over 3,584 bytes */
+    CARD_PROGRAM_LENGTH = 8,   /* a program of 0 bytes, or of more than there
+                                  are from 0200 to the end of memory */
     CARD_LENGTH = 9,           /* a buffer or a list has a wrong length */
     CARD_UNSOUND = 10,         /* a state that cannot be, next, kept or ahead
-                                  too; in a load an edition that there is not;
+                                  too; in a load an edition that there is not,
+                                  or an end that is not in use;
                                   late, a change that would take the number of
                                   lit spots below 0 or above 2,048 */
     CARD_DAMAGED_RECORD = 11,  /* a back or a forward onto a damaged record */
@@ -244,9 +258,10 @@ enum card_refusal {
 #define CARD_AT_NEXT 48    /* two bytes: the place of the next record */
 #define CARD_AT_KEPT 50    /* two bytes: how many actions can be taken back */
 #define CARD_AT_EDITION 52 /* one of the two below */
-#define CARD_AT_LATER 53   /* for later use, 0, and 58 to 63 likewise */
+#define CARD_AT_LATER 53   /* for later use, 0, and 60 to 63 likewise */
 #define CARD_AT_AHEAD 54   /* two bytes: how many actions can be made again */
 #define CARD_AT_LIT 56     /* two bytes: how many spots are lit, 0 to 2,048 */
+#define CARD_AT_END 58     /* two bytes: where memory ends, one of the two below */
 
 #define CARD_NO_KEY 0xFF
 
@@ -262,6 +277,10 @@ enum card_refusal {
  */
 #define CARD_FIRST_EDITION 0
 #define CARD_SECOND_EDITION 1
+
+/* The two ends of memory. */
+#define CARD_SMALL_END 0x06A0
+#define CARD_FULL_END 0x1000
 
 /* ---- The answer of a step and of a run ---------------------------------- */
 
@@ -286,19 +305,20 @@ enum card_standing {
 /* ---- The calls ---------------------------------------------------------- */
 
 /*
- * Loads a program of 1 to 3,584 bytes to 0200. The digits stand from 0000 to
- * 004F; all other memory, the rows and the whole history become 0. Nothing
- * is read from the four buffers, so they may hold anything before. An `edition`
- * other than the two is CARD_UNSOUND.
+ * Loads a program to 0200: of 1 to 3,584 bytes where `end` is CARD_FULL_END, of 1
+ * to 1,184 where it is CARD_SMALL_END. The digits stand from 0000 to 004F; all
+ * other memory, also above the end, the rows and the whole history become 0.
+ * Nothing is read from the four buffers, so they may hold anything before. An
+ * `edition` other than the two, or another `end`, is CARD_UNSOUND.
  *
- * The image becomes the fresh one (PC 0200, held key FF, the edition that was
- * asked for, all else 0) even when the load is refused, provided it has 64 bytes.
- * It has the first edition where no such edition was asked for, whichever number
- * refuses the load. A refused load leaves memory, rows and history; so its number
+ * The image becomes the fresh one (PC 0200, held key FF, the edition and the end
+ * that were asked for, all else 0) even when the load is refused, provided it has
+ * 64 bytes. It has the first edition where no such edition was asked for, and
+ * CARD_FULL_END where no such end was, whichever number refuses the load. A refused load leaves memory, rows and history; so its number
  * of lit spots, 0, is false where the rows are not dark.
  */
 uint32_t card_load(const uint8_t *program, size_t program_length,
-                   uint8_t edition,
+                   uint8_t edition, uint16_t end,
                    uint8_t *image, size_t image_length,
                    uint8_t *memory, size_t memory_length,
                    uint64_t *rows, size_t rows_length,

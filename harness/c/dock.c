@@ -91,12 +91,17 @@ static uint32_t after_call(uint32_t refusal) {
 
 /* ---- The calls with all the desk's buffers ------------------------------ */
 
-static uint32_t load(const uint8_t *program, size_t length, uint8_t edition) {
-    return after_call(card_load(program, length, edition,
+static uint32_t load_with(const uint8_t *program, size_t length,
+                          uint8_t edition, uint16_t end) {
+    return after_call(card_load(program, length, edition, end,
                                 desk.image, sizeof desk.image,
                                 desk.memory, sizeof desk.memory,
                                 desk.rows, CARD_ROWS,
                                 desk.history, sizeof desk.history));
+}
+
+static uint32_t load(const uint8_t *program, size_t length, uint8_t edition) {
+    return load_with(program, length, edition, CARD_FULL_END);
 }
 
 static uint32_t step(uint16_t keys, uint8_t random) {
@@ -550,6 +555,8 @@ static void refusals(void) {
             "an empty program");
     refused(load(PROGRAM, 0, CARD_SECOND_EDITION + 1), CARD_UNSOUND,
             "a third edition, said before the empty program");
+    refused(load_with(PROGRAM, 0, CARD_FIRST_EDITION, 2048), CARD_UNSOUND,
+            "an end of 2,048, said before the empty program");
 
     refused(after_call(card_step(desk.image, sizeof desk.image,
                                  desk.memory, sizeof desk.memory - 1,
@@ -687,6 +694,41 @@ static void second_edition(void) {
     expect(back() == CARD_DONE, "a back in the second edition is accepted");
     expect(desk.image[CARD_AT_EDITION] == CARD_SECOND_EDITION,
            "a back leaves the edition");
+}
+
+/* ---- The 2K profile ------------------------------------------------------ */
+
+static void small_memory(void) {
+    static uint8_t program[CARD_SMALL_PROGRAM_MOST + 1] = {
+        0xA6, 0x9E, /* 0200 I = 069E */
+        0xF1, 0x55, /* 0202 V0 and V1 to the last two bytes; I = 06A0 */
+        0x16, 0x9E, /* 0204 to the last instruction, which is 0000 now */
+    };
+
+    memset(desk.memory, 0xFF, sizeof desk.memory);
+    expect(load_with(program, sizeof program - 1, CARD_FIRST_EDITION,
+                     CARD_SMALL_END) == CARD_DONE,
+           "a load of 1,184 bytes is accepted");
+    for (size_t at = CARD_SMALL_END; at < sizeof desk.memory; at++) {
+        expect(desk.memory[at] == 0, "memory is 0 above the end");
+    }
+    expect(number(CARD_AT_END) == CARD_SMALL_END, "the end stands in the image");
+    for (int count = 0; count < 3; count++) {
+        accepted_step(0);
+    }
+    expect(number(CARD_AT_END) == CARD_SMALL_END, "no step changes the end");
+    set_number(CARD_AT_PC, 0x069F);
+    memset(desk.answer, 0, sizeof desk.answer);
+    remember();
+    refused(step(0, 0), CARD_PROGRAM_COUNTER, "a step with PC 069F and end 06A0");
+    expect(back() == CARD_DONE && back() == CARD_DONE,
+           "a back in the small memory is accepted");
+    set_number(CARD_AT_I, 0x069F);
+    remember();
+    refused(step(0, 0), CARD_PAST_MEMORY, "two bytes stored from 069F");
+    expect(load_with(program, sizeof program, CARD_FIRST_EDITION,
+                     CARD_SMALL_END) == CARD_PROGRAM_LENGTH,
+           "a program of 1,185 bytes is refused");
 }
 
 /* ---- One place only ----------------------------------------------------- */
@@ -892,6 +934,7 @@ int main(void) {
     run_and_play();
     refusals();
     second_edition();
+    small_memory();
     one_place();
     a_worn_cell();
     rows_and_bytes();

@@ -49,8 +49,8 @@ impl Engine<u64> for Archive {
     fn name(&self) -> &'static str {
         "the card's archive"
     }
-    fn load(&self, lent: Lent<u64>, program: &[u8], edition: u8) -> u32 {
-        cross!(card_load: read u8 program, value u8 edition, machine lent)
+    fn load(&self, lent: Lent<u64>, program: &[u8], edition: u8, end: u16) -> u32 {
+        cross!(card_load: read u8 program, value u8 edition, value u16 end, machine lent)
     }
     fn step(&self, lent: Lent<u64>, keys: u16, random: u8, answer: &mut [u64]) -> u32 {
         cross!(card_step: machine lent, value u16 keys, value u8 random, write u64 answer)

@@ -11,6 +11,7 @@ pub enum Call {
     Load {
         program: Vec<u8>,
         edition: u8,
+        end: u16,
     },
     Step {
         keys: u16,
@@ -144,8 +145,8 @@ impl fmt::Display for Host {
             let m = Machine::from_image(&self.image);
             writeln!(
                 f,
-                "    PC {:04X}, I {:04X}, depth {}, delay {:02X}, tone {:02X}, wait {:?}, next {}, kept {}, ahead {}, edition {}",
-                m.pc, m.i, m.depth, m.delay, m.tone, m.wait, m.next, m.kept, m.ahead, m.edition
+                "    PC {:04X}, I {:04X}, depth {}, delay {:02X}, tone {:02X}, wait {:?}, next {}, kept {}, ahead {}, edition {}, end {:04X}",
+                m.pc, m.i, m.depth, m.delay, m.tone, m.wait, m.next, m.kept, m.ahead, m.edition, m.end
             )?;
             let spots = lit_spots(&self.picture);
             writeln!(
@@ -179,11 +180,15 @@ fn buffer(f: &mut fmt::Formatter, name: &str, bytes: &[u8]) -> fmt::Result {
 impl fmt::Display for Call {
     fn fmt(&self, f: &mut fmt::Formatter) -> fmt::Result {
         match self {
-            Call::Load { program, edition } => {
+            Call::Load {
+                program,
+                edition,
+                end,
+            } => {
                 let bytes = in_rows(program);
                 write!(
                     f,
-                    "load {} bytes [{bytes}] edition {edition}",
+                    "load {} bytes [{bytes}] edition {edition} end {end:04X}",
                     program.len()
                 )
             }

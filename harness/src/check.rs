@@ -71,7 +71,7 @@ pub fn make<Item>(
     told: Told,
 ) -> u32 {
     match call {
-        Call::Load { edition, .. } => engine.load(lent, lists.first, *edition),
+        Call::Load { edition, end, .. } => engine.load(lent, lists.first, *edition, *end),
         Call::Step { keys, random, .. } => engine.step(lent, *keys, *random, told.answer),
         Call::Tick => engine.tick(lent),
         Call::Back => engine.back(lent),

@@ -7,8 +7,8 @@ use crate::case::{hex, Call, Case};
 use crate::check::{check, check_page, check_panel, make, Filled, UNWRITTEN};
 use crate::engine::{Engine, Second, ANSWER};
 use crate::second::{
-    lit_spots, Machine, BYTES_A_ROW, FIRST_EDITION, HISTORY_MOST, IMAGE, LATER, LIST_MOST, MEMORY,
-    PICTURE, PLACE, ROWS,
+    lit_spots, Machine, BYTES_A_ROW, FIRST_EDITION, FULL_END, HISTORY_MOST, IMAGE, LATER,
+    LIST_MOST, MEMORY, PICTURE, PLACE, ROWS,
 };
 use crate::tally::Tally;
 use crate::{dots, tuned::Tuned};
@@ -90,6 +90,7 @@ fn fields() -> Vec<Field> {
         field("ahead", 54, Form::Count, Some(0)),
         field("lit", 56, Form::Count, Some(0)),
         field("edition", 52, Form::Byte, Some(0)),
+        field("end", 58, Form::Word, Some(FULL_END)),
     ]);
     fields.extend(LATER.map(|at| field(&format!("byte {at}"), at, Form::Byte, Some(0))));
     fields
@@ -207,7 +208,7 @@ impl Desk {
             keys: vec![0; LIST_MOST + 1],
             calls: 0,
         };
-        desk.keep("image", &Machine::fresh(FIRST_EDITION).to_image());
+        desk.keep("image", &Machine::fresh(FIRST_EDITION, FULL_END).to_image());
         desk
     }
 
@@ -273,9 +274,16 @@ impl Desk {
     fn read_call(&self, words: &[&str]) -> Result<Call, String> {
         Ok(match words {
             ["load", length] => self.read_call(&["load", length, "edition", "00"])?,
-            ["load", length, "edition", edition] => Call::Load {
+            ["load", length, "edition", edition] => {
+                self.read_call(&["load", length, "edition", edition, "end", "1000"])?
+            }
+            ["load", length, "end", end] => {
+                self.read_call(&["load", length, "edition", "00", "end", end])?
+            }
+            ["load", length, "edition", edition, "end", end] => Call::Load {
                 program: first(&self.known("program").bytes, length)?,
                 edition: number(edition, 16)?,
+                end: number(end, 16)?,
             },
             ["step", inputs @ ..] => self.step(inputs)?,
             ["tick"] => Call::Tick,

@@ -21,7 +21,7 @@ pub const PLACES_CLEARED: usize = 1;
 /// bytes (`u8`) as in the rules.
 pub trait Engine<Item> {
     fn name(&self) -> &'static str;
-    fn load(&self, lent: Lent<Item>, program: &[u8], edition: u8) -> u32;
+    fn load(&self, lent: Lent<Item>, program: &[u8], edition: u8, end: u16) -> u32;
     fn step(&self, lent: Lent<Item>, keys: u16, random: u8, answer: &mut [u64]) -> u32;
     fn tick(&self, lent: Lent<Item>) -> u32;
     fn back(&self, lent: Lent<Item>) -> u32;
@@ -65,9 +65,9 @@ impl Engine<u8> for Second {
     fn name(&self) -> &'static str {
         "the second interpreter"
     }
-    fn load(&self, lent: Lent<u8>, program: &[u8], edition: u8) -> u32 {
+    fn load(&self, lent: Lent<u8>, program: &[u8], edition: u8, end: u16) -> u32 {
         with_machine(lent, |machine, lent| {
-            let (loaded, outcome) = second::load(program, edition, lent);
+            let (loaded, outcome) = second::load(program, edition, end, lent);
             *machine = loaded;
             number(outcome)
         })

@@ -15,7 +15,6 @@ pub const ROWS: usize = 32;
 pub const BYTES_A_ROW: usize = 8;
 pub const STACK: usize = 12;
 pub const START: u16 = 0x0200;
-pub const PROGRAM_MOST: usize = 3584;
 pub const PLACE: usize = 292;
 pub const HISTORY_MOST: usize = 65_536;
 pub const LIST_MOST: usize = 4096;
@@ -25,6 +24,11 @@ pub const SPOTS: u16 = 2048;
 /// The editions of the instruction set.
 pub const FIRST_EDITION: u8 = 0;
 pub const SECOND_EDITION: u8 = 1;
+
+/// Where memory ends, in the 2K profile and else. Lent memory has 4,096
+/// bytes in both.
+pub const SMALL_END: u16 = 1696;
+pub const FULL_END: u16 = 4096;
 
 /// A state, and the three numbers that go with its history.
 #[derive(Clone, Debug, PartialEq, Eq)]
@@ -47,6 +51,8 @@ pub struct Machine {
     /// The number of lit spots. One handed in may be false, even above the
     /// number of all spots.
     pub lit: u16,
+    /// Where memory ends. One handed in may be neither of the two in use.
+    pub end: u16,
     /// The image's bytes that are kept for later. Sound only when all are 0.
     pub later: [u8; LATER.len()],
 }
@@ -76,7 +82,7 @@ pub enum Refusal {
 
 impl Machine {
     /// The machine that a load hands back.
-    pub fn fresh(edition: u8) -> Machine {
+    pub fn fresh(edition: u8, end: u16) -> Machine {
         Machine {
             v: [0; 16],
             i: 0,
@@ -91,6 +97,7 @@ impl Machine {
             ahead: 0,
             edition,
             lit: 0,
+            end,
             later: [0; LATER.len()],
         }
     }
@@ -102,6 +109,7 @@ impl Machine {
             && self.wait.is_none_or(|key| key <= 15)
             && is_edition(self.edition)
             && self.lit <= SPOTS
+            && is_end(self.end)
             && self.later == [0; LATER.len()]
     }
 
@@ -116,6 +124,10 @@ impl Machine {
 
 fn is_edition(number: u8) -> bool {
     number == FIRST_EDITION || number == SECOND_EDITION
+}
+
+fn is_end(number: u16) -> bool {
+    number == SMALL_END || number == FULL_END
 }
 
 /// R, the number of places in a history.
@@ -182,20 +194,31 @@ pub const DIGITS: [[u8; 5]; 16] = [
 ];
 
 /// A load takes no machine. Refused or not, it hands back the fresh one, of the
-/// edition that was asked for, or of the first where there is no such edition.
-pub fn load(program: &[u8], edition: u8, lent: &mut Lent) -> (Machine, Result<(), Refusal>) {
-    let handed_back = match is_edition(edition) {
+/// edition and with the end that were asked for; where there is no such edition
+/// of the first, and where the end is not in use with 4,096.
+pub fn load(
+    program: &[u8],
+    edition: u8,
+    end: u16,
+    lent: &mut Lent,
+) -> (Machine, Result<(), Refusal>) {
+    let edition_back = match is_edition(edition) {
         true => edition,
         false => FIRST_EDITION,
     };
-    let outcome = fill_buffers(program, edition, lent);
-    (Machine::fresh(handed_back), outcome)
+    let end_back = match is_end(end) {
+        true => end,
+        false => FULL_END,
+    };
+    let outcome = fill_buffers(program, edition, end, lent);
+    (Machine::fresh(edition_back, end_back), outcome)
 }
 
-fn fill_buffers(program: &[u8], edition: u8, lent: &mut Lent) -> Result<(), Refusal> {
+fn fill_buffers(program: &[u8], edition: u8, end: u16, lent: &mut Lent) -> Result<(), Refusal> {
     test_lengths(lent)?;
     test(is_edition(edition), Refusal::Unsound)?;
-    let fits = (1..=PROGRAM_MOST).contains(&program.len());
+    test(is_end(end), Refusal::Unsound)?;
+    let fits = (1..=usize::from(end - START)).contains(&program.len());
     test(fits, Refusal::ProgramLength)?;
 
     lent.memory.fill(0);
@@ -256,11 +279,11 @@ enum Instruction {
 use Instruction::*;
 
 /// The instruction is the byte at PC, then the byte at PC+1.
-fn instruction_at(pc: u16, memory: &[u8], edition: u8) -> Result<Instruction, Refusal> {
-    test(pc <= 4094, Refusal::ProgramCounter)?;
-    let high = memory[usize::from(pc)];
-    let low = memory[usize::from(pc) + 1];
-    listed(u16::from(high) * 256 + u16::from(low), edition)
+fn instruction_at(machine: &Machine, memory: &[u8]) -> Result<Instruction, Refusal> {
+    test(machine.pc <= machine.end - 2, Refusal::ProgramCounter)?;
+    let high = memory[usize::from(machine.pc)];
+    let low = memory[usize::from(machine.pc) + 1];
+    listed(u16::from(high) * 256 + u16::from(low), machine.edition)
 }
 
 fn listed(word: u16, edition: u8) -> Result<Instruction, Refusal> {
@@ -320,8 +343,8 @@ fn test_possible(instruction: &Instruction, machine: &Machine) -> Result<(), Ref
         _ => match bytes_needed(instruction) {
             0 => Ok(()),
             needed => {
-                let end = usize::from(machine.i) + needed;
-                test(end <= MEMORY, Refusal::PastMemory)
+                let reach = usize::from(machine.i) + needed;
+                test(reach <= usize::from(machine.end), Refusal::PastMemory)
             }
         },
     }
@@ -341,7 +364,7 @@ fn bytes_needed(instruction: &Instruction) -> usize {
 pub fn step(machine: &mut Machine, lent: &mut Lent, keys: u16, random: u8) -> Result<u64, Refusal> {
     test_lengths(lent)?;
     test_state(machine, lent.history)?;
-    let instruction = instruction_at(machine.pc, lent.memory, machine.edition)?;
+    let instruction = instruction_at(machine, lent.memory)?;
     test_possible(&instruction, machine)?;
     let lit = lit_after(&instruction, machine, lent)?;
 
@@ -790,7 +813,8 @@ pub fn back(machine: &mut Machine, lent: &mut Lent) -> Result<(), Refusal> {
     let before_next = place_before(machine, lent.history);
     let place = PLACE * before_next;
     let record = lent.history[place..place + PLACE].to_vec();
-    test(!is_damaged(&record, machine.depth), Refusal::DamagedRecord)?;
+    let damaged = is_damaged(&record, machine.end, machine.depth);
+    test(!damaged, Refusal::DamagedRecord)?;
     let start = usize::from(get(&record, 28));
     let count = usize::from(get(&record, 30));
     let old = &record[32..32 + count];
@@ -847,7 +871,7 @@ pub fn forward(machine: &mut Machine, lent: &mut Lent) -> Result<(), Refusal> {
     Ok(())
 }
 
-fn is_damaged(record: &[u8], present_depth: u8) -> bool {
+fn is_damaged(record: &[u8], end: u16, present_depth: u8) -> bool {
     let depth = record[22];
     let address = get(record, 23);
     let key = record[27];
@@ -855,7 +879,7 @@ fn is_damaged(record: &[u8], present_depth: u8) -> bool {
     let count = usize::from(get(record, 30));
     let range_damaged = match &record[0..2] {
         b"NO" => start != 0 || count != 0,
-        b"ME" => !(1..=16).contains(&count) || start + count > MEMORY,
+        b"ME" => !(1..=16).contains(&count) || start + count > usize::from(end),
         b"DI" => !(1..=256).contains(&count) || start + count > PICTURE,
         _ => true,
     };
@@ -905,7 +929,7 @@ pub fn salvage(
     let mut newer_depth = machine.depth;
     for &place in &kept {
         let record = &history[PLACE * place..PLACE * (place + 1)];
-        if is_damaged(record, newer_depth) {
+        if is_damaged(record, machine.end, newer_depth) {
             break;
         }
         newer_depth = record[22];
@@ -937,11 +961,11 @@ pub fn salvage(
 
 pub const IMAGE: usize = 64;
 /// Where the image holds nothing yet.
-pub const LATER: [usize; 7] = [53, 58, 59, 60, 61, 62, 63];
+pub const LATER: [usize; 5] = [53, 60, 61, 62, 63];
 
 impl Machine {
     pub fn from_image(image: &[u8]) -> Machine {
-        let mut machine = Machine::fresh(image[52]);
+        let mut machine = Machine::fresh(image[52], get(image, 58));
         machine.v.copy_from_slice(&image[0..16]);
         machine.i = get(image, 16);
         machine.pc = get(image, 18);
@@ -980,6 +1004,7 @@ impl Machine {
         image[52] = self.edition;
         put(&mut image, 54, self.ahead);
         put(&mut image, 56, self.lit);
+        put(&mut image, 58, self.end);
         for (at, byte) in LATER.iter().zip(self.later) {
             image[*at] = byte;
         }

@@ -7,7 +7,7 @@ use crate::buffers::{Host, Told, PARTS};
 use crate::case::{wear, write_bytes, Call, Case};
 use crate::check::make;
 use crate::engine::Second;
-use crate::second::{FIRST_EDITION, PLACE};
+use crate::second::{FIRST_EDITION, FULL_END, PLACE};
 
 /// Tries changes of a case and keeps those after which it still fails.
 struct Shrinker<'a> {
@@ -104,6 +104,11 @@ impl Shrinker<'_> {
                 self.try_case(|case| {
                     if let Call::Load { edition, .. } = &mut case.calls[number] {
                         *edition = FIRST_EDITION;
+                    }
+                });
+                self.try_case(|case| {
+                    if let Call::Load { end, .. } = &mut case.calls[number] {
+                        *end = FULL_END;
                     }
                 });
                 self.drop_entries(number, length);

@@ -14,13 +14,15 @@ const HISTORY_MOST: usize = 65_536;
 const IMAGE: usize = 64;
 const ANSWER: usize = 4;
 const LIST_MOST: usize = 4096;
-const PROGRAM_MOST: usize = 3584;
 const START: usize = 0x0200;
 const NO_KEY: u8 = 0xFF;
 /// The most spots that can be lit.
 const SPOTS: u64 = 2048;
 const FIRST_EDITION: u8 = 0;
 const SECOND_EDITION: u8 = 1;
+/// The two ends of memory in use.
+const SMALL_END: u16 = 1696;
+const FULL_END: u16 = 4096;
 
 const PROGRAM_COUNTER: u32 = 1;
 const NOT_LISTED: u32 = 2;
@@ -128,6 +130,8 @@ struct Work {
     /// for it.
     ahead: usize,
     second_edition: bool,
+    /// Where memory ends. No call but a load sets it.
+    end: usize,
     /// The number of lit spots. Only steps and backs that change the picture touch
     /// it.
     lit: u64,
@@ -156,16 +160,18 @@ impl Work {
         let kept = usize::from(number(image, 50));
         let edition = image[52];
         let ahead = usize::from(number(image, 54));
-        // One test is enough for the number and the six bytes after it, which come
-        // to stand above it.
-        let last = image.last_chunk().expect("64 bytes hold 8");
-        let lit = u64::from_be_bytes(*last).rotate_left(16);
+        // The number, the end, and four bytes for later use, which come to stand
+        // above the number, so that one test is enough for them and it.
+        let last = u64::from_be_bytes(*image.last_chunk().expect("64 bytes hold 8"));
+        let lit = last << 32 | last >> 48;
+        let end = (last >> 32) as u16;
         let sound = depth <= 12
             && entries_from(&stack, depth) == 0
             && (held <= 15 || held == NO_KEY)
             && edition <= SECOND_EDITION
             && image[53] == 0
             && lit <= SPOTS
+            && is_end(end)
             && next < places
             && kept + ahead <= places;
         if !sound {
@@ -185,15 +191,15 @@ impl Work {
             kept,
             ahead,
             second_edition: edition == SECOND_EDITION,
+            end: usize::from(end),
             lit,
             went_dark: 0,
             copied: 0,
         })
     }
 
-    /// The edition stands in the image already, and the bytes for later use are 0,
-    /// or it had been refused. The last six of them are written with the number of
-    /// lit spots, as they are read with it.
+    /// The edition and the end stand in the image already, and the bytes for later
+    /// use are 0, or it had been refused.
     #[inline(always)]
     fn write(&self, image: &mut Image) {
         image[..16].copy_from_slice(&self.v.0.to_be_bytes());
@@ -214,7 +220,14 @@ impl Work {
         image[48..50].copy_from_slice(&(self.next as u16).to_be_bytes());
         image[50..52].copy_from_slice(&(self.kept as u16).to_be_bytes());
         image[54..56].copy_from_slice(&(self.ahead as u16).to_be_bytes());
-        image[56..].copy_from_slice(&(self.lit << 48).to_be_bytes());
+        image[56..58].copy_from_slice(&(self.lit as u16).to_be_bytes());
+    }
+
+    /// The end of memory, in a form that shows the compiler that it is within the
+    /// lent bytes.
+    #[inline(always)]
+    fn end(&self) -> usize {
+        self.end.min(MEMORY)
     }
 
     /// The head of a record that keeps no old bytes.
@@ -279,7 +292,7 @@ impl Work {
         random: u8,
     ) -> u32 {
         let at = usize::from(self.pc);
-        if at > MEMORY - 2 {
+        if at > self.end() - 2 {
             return PROGRAM_COUNTER;
         }
         let word = number(memory, at);
@@ -381,7 +394,7 @@ impl Work {
                     self.v.set_flag(false);
                 } else {
                     let i = usize::from(self.i);
-                    let Some(pattern) = memory.get(i..i + n) else {
+                    let Some(pattern) = memory.get(i..i + n).filter(|_| i + n <= self.end()) else {
                         return PAST_MEMORY;
                     };
                     let column = vx & 63;
@@ -460,7 +473,8 @@ impl Work {
                 0x29 => self.i = 5 * u16::from(vx & 15),
                 0x33 => {
                     let i = usize::from(self.i);
-                    let Some(bytes) = memory.get_mut(i..i + 3) else {
+                    let fits = i + 3 <= self.end();
+                    let Some(bytes) = memory.get_mut(i..i + 3).filter(|_| fits) else {
                         return PAST_MEMORY;
                     };
                     head.mark(b"ME", i, 3);
@@ -474,7 +488,7 @@ impl Work {
                 }
                 0x55 => {
                     let i = usize::from(self.i);
-                    if i + x + 1 > MEMORY {
+                    if i + x + 1 > self.end() {
                         return PAST_MEMORY;
                     }
                     head.mark(b"ME", i, x + 1);
@@ -488,7 +502,7 @@ impl Work {
                 }
                 0x65 => {
                     let i = usize::from(self.i);
-                    if i + x + 1 > MEMORY {
+                    if i + x + 1 > self.end() {
                         return PAST_MEMORY;
                     }
                     fetch(memory, i, x, &mut self.v);
@@ -532,7 +546,7 @@ impl Work {
         }
         match [record[0], record[1]] {
             [b'N', b'O'] if start == 0 && count == 0 => {}
-            [b'M', b'E'] if (1..=16).contains(&count) && start + count <= MEMORY => {
+            [b'M', b'E'] if (1..=16).contains(&count) && start + count <= self.end() => {
                 memory[start..start + count].copy_from_slice(&record[32..32 + count]);
             }
             [b'D', b'I'] if (1..=256).contains(&count) && start + count <= PICTURE => {
@@ -587,6 +601,12 @@ impl Work {
         self.ahead -= usize::from(refusal == 0);
         refusal
     }
+}
+
+/// An end of memory that is in use.
+#[inline(always)]
+fn is_end(end: u16) -> bool {
+    end == SMALL_END || end == FULL_END
 }
 
 /// All stack entries at and above the depth, one over the other. Looking at
@@ -725,7 +745,7 @@ fn fetch(memory: &Memory, i: usize, x: usize, v: &mut Registers) {
 
 /// Whether a record is damaged beside a state of that depth. A back tests the
 /// same as it goes, and this is for a salvage, where speed does not count.
-fn is_damaged(record: &Place, present_depth: u8) -> bool {
+fn is_damaged(record: &Place, end_of_memory: usize, present_depth: u8) -> bool {
     let depth = record[22];
     let held = record[27];
     let start = usize::from(number(record, 28));
@@ -733,7 +753,7 @@ fn is_damaged(record: &Place, present_depth: u8) -> bool {
     let end = start + count;
     let fits = match [record[0], record[1]] {
         [b'N', b'O'] => end == 0,
-        [b'M', b'E'] => (1..=16).contains(&count) && end <= MEMORY,
+        [b'M', b'E'] => (1..=16).contains(&count) && end <= end_of_memory,
         [b'D', b'I'] => (1..=256).contains(&count) && end <= PICTURE,
         _ => false,
     };
@@ -796,7 +816,7 @@ impl Engine<u64> for Tuned {
         "the hand-tuned engine"
     }
 
-    fn load(&self, lent: Lent<u64>, program: &[u8], edition: u8) -> u32 {
+    fn load(&self, lent: Lent<u64>, program: &[u8], edition: u8, end: u16) -> u32 {
         let Ok(image) = <&mut Image>::try_from(lent.image) else {
             return LENGTH;
         };
@@ -805,14 +825,17 @@ impl Engine<u64> for Tuned {
         image[23] = NO_KEY;
         let listed = edition <= SECOND_EDITION;
         image[52] = if listed { edition } else { FIRST_EDITION };
+        let in_use = is_end(end);
+        let handed_back = if in_use { end } else { FULL_END };
+        image[58..60].copy_from_slice(&handed_back.to_be_bytes());
         let (memory, rows, history) = (lent.memory, lent.picture, lent.history);
         if memory.len() != MEMORY || rows.len() != ROWS || places_of(history).is_none() {
             return LENGTH;
         }
-        if !listed {
+        if !listed || !in_use {
             return UNSOUND;
         }
-        if program.is_empty() || program.len() > PROGRAM_MOST {
+        if program.is_empty() || program.len() > usize::from(end) - START {
             return PROGRAM_LENGTH;
         }
         memory.fill(0);
@@ -974,7 +997,7 @@ impl Engine<u64> for Tuned {
         let mut depth = work.depth;
         while row < work.kept {
             let record = &places[(work.next + count - 1 - row) % count];
-            if is_damaged(record, depth) {
+            if is_damaged(record, work.end(), depth) {
                 break;
             }
             depth = record[22];

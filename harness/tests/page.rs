@@ -6,7 +6,7 @@ use harness::case::Call;
 use harness::check::check_page;
 use harness::generate;
 use harness::random::Random;
-use harness::second::{Machine, FIRST_EDITION, IMAGE, PICTURE};
+use harness::second::{Machine, FIRST_EDITION, FULL_END, IMAGE, PICTURE, SMALL_END};
 
 fn compare(image: &[u8], before: &[u8]) -> u32 {
     match check_page(image, before) {
@@ -24,7 +24,7 @@ fn page_of(machine: &Machine) -> [u8; PICTURE] {
 /// Every value in every variable, and every PC in steps that reach each digit.
 #[test]
 fn every_value() {
-    let mut machine = Machine::fresh(FIRST_EDITION);
+    let mut machine = Machine::fresh(FIRST_EDITION, FULL_END);
     for value in 0..=255 {
         for number in 0..16 {
             machine.v[number] = value ^ 17 * number as u8;
@@ -59,7 +59,7 @@ fn images_of_the_comparison() {
 #[test]
 fn lengths() {
     let random = Random::new(9);
-    let image = Machine::fresh(FIRST_EDITION).to_image();
+    let image = Machine::fresh(FIRST_EDITION, FULL_END).to_image();
     for images in [0, 1, 63, 64, 65, 128, 256] {
         for pages in [0, 1, 64, 255, 256, 257, 512] {
             let mut lent = image.to_vec();
@@ -77,7 +77,7 @@ fn lengths() {
 /// shown.
 #[test]
 fn what_is_not_shown() {
-    let fresh = Machine::fresh(FIRST_EDITION);
+    let fresh = Machine::fresh(FIRST_EDITION, FULL_END);
     let other = Machine {
         i: 0x1234,
         delay: 5,
@@ -88,6 +88,7 @@ fn what_is_not_shown() {
         ahead: 0xFFFF,
         edition: 1,
         lit: 2048,
+        end: SMALL_END,
         ..fresh.clone()
     };
     assert_eq!(page_of(&fresh), page_of(&other));
@@ -96,7 +97,7 @@ fn what_is_not_shown() {
 /// What a person can check: V0 to VF are 01, 23 and so on up and down, PC 0ABC.
 #[test]
 fn a_page_to_look_at() {
-    let mut machine = Machine::fresh(FIRST_EDITION);
+    let mut machine = Machine::fresh(FIRST_EDITION, FULL_END);
     machine.v = [
         0x01, 0x23, 0x45, 0x67, 0x89, 0xAB, 0xCD, 0xEF, 0xFE, 0xDC, 0xBA, 0x98, 0x76, 0x54, 0x32,
         0x10,

@@ -7,7 +7,9 @@ use harness::card::Archive;
 use harness::case::{wear, Call, Case};
 use harness::check::check;
 use harness::engine::{Engine, Second, ANSWER, PLACES_CLEARED, RECORDS_KEPT};
-use harness::second::{Machine, Refusal, FIRST_EDITION, MEMORY, PICTURE, PLACE, WAS_FREE};
+use harness::second::{
+    Machine, Refusal, FIRST_EDITION, FULL_END, MEMORY, PICTURE, PLACE, WAS_FREE,
+};
 use harness::tally::Tally;
 
 const PLACES: usize = 7;
@@ -39,7 +41,10 @@ fn host() -> Host {
         history: vec![0; PLACES * PLACE + 5],
     };
     let program: Vec<u8> = PROGRAM.iter().flat_map(|word| word.to_be_bytes()).collect();
-    assert_eq!(Second.load(host.lend(), &program, FIRST_EDITION), 0);
+    assert_eq!(
+        Second.load(host.lend(), &program, FIRST_EDITION, FULL_END),
+        0
+    );
     host.history[PLACES * PLACE..].fill(0x3C);
     for _ in 0..7 {
         assert_eq!(Second.step(host.lend(), 0, 0, &mut [0; ANSWER]), 0);

@@ -19,7 +19,7 @@ use Rattle.rules.proofs.Follow.{past-fits}
 use Rattle.rules.proofs.Still.{after-lit, counted-same}
 use Rattle.act.specs.Became.{acted, Became}
 
-module _ (op : Op) (m : Machine) (allowed : refusalOf op m ≡ 0) where
+module _ (op : Op) (m : Machine) (allowed : refusalOf op m ≡ 0) (most : m .end ≤ 4096) where
   pub call-room : (a : ℕ) → op ≡ Call a → m .depth < 12
   unfolding refusalOf
   call-room a e = ltb-true (m .depth) 12 ((passed (ltb (m .depth) 12) 3 0 (rw e at allowed)) .0)
@@ -30,19 +30,21 @@ module _ (op : Op) (m : Machine) (allowed : refusalOf op m ≡ 0) where
 
   pub draw-reach : (x y n : ℕ) → op ≡ Draw x y n → reach m n ≤ 4096
   unfolding refusalOf
-  draw-reach x y n e = leb-true (reach m n) 4096 ((passed (leb (reach m n) 4096) 5 0 (rw e at allowed)) .0)
+  draw-reach x y n e =
+      let below = leb-true (reach m n) (m .end) ((passed (leb (reach m n) (m .end)) 5 0 (rw e at allowed)) .0) in
+      omega (arith, below, most)
 
   pub decimal-reach : (x : ℕ) → op ≡ Decimal x → m .i + 3 ≤ 4096
   unfolding refusalOf
-  decimal-reach x e = past-fits m 3 (omega arith) (rw e at allowed)
+  decimal-reach x e = omega (arith, past-fits m 3 (omega arith) (rw e at allowed), most)
 
   pub store-reach : (x : ℕ) → op ≡ Store x → m .i + upTo x ≤ 4096
   unfolding refusalOf
-  store-reach x e = past-fits m (upTo x) (omega arith) (rw e at allowed)
+  store-reach x e = omega (arith, past-fits m (upTo x) (omega arith) (rw e at allowed), most)
 
   pub fetch-reach : (x : ℕ) → op ≡ Fetch x → m .i + upTo x ≤ 4096
   unfolding refusalOf
-  fetch-reach x e = past-fits m (upTo x) (omega arith) (rw e at allowed)
+  fetch-reach x e = omega (arith, past-fits m (upTo x) (omega arith) (rw e at allowed), most)
 
 module _ (op : Op) (m : Machine) (mem pic : List ℕ) (passes : litRefusal (m .lit) pic (pictureAfter op m mem pic) ≡ 0) where
   pub clear-passes : op ≡ Clear → litRefusal (m .lit) pic (zeroes 256) ≡ 0

@@ -11,6 +11,7 @@ use Rattle.rules.specs.Rows.{bytesOf}
 use Rattle.rules.specs.Step.{refusalOf, litRefusal, pictureAfter}
 
 pub record Accepted (op : Op) (m : Machine) (mem picture : List ℕ) : Type 0 where
+  pub end : m .end ≤ memorySize
   pub near : m .pc ≤ memorySize - 2
   pub shallow : m .depth ≤ stackSize
   pub allowed : refusalOf op m ≡ 0

@@ -34,9 +34,9 @@ untouched n image memory picture history =
 -- ---- the calls; an image, or an answer, of a wrong length is 9
 
 -- a load leaves the fresh image, refused or not
-unfoldable pub cardLoad : List ℕ → ℕ → List ℕ → List ℕ → List ℕ → List ℕ → Card
-cardLoad program edition image memory picture history =
-    pick (sized image) (shown true image (loadBy edition program memory picture history))
+unfoldable pub cardLoad : List ℕ → ℕ → ℕ → List ℕ → List ℕ → List ℕ → List ℕ → Card
+cardLoad program edition end image memory picture history =
+    pick (sized image) (shown true image (loadBy edition end program memory picture history))
     (untouched (numberOf BufferLength) image memory picture history)
 
 unfoldable pub cardStep : ℕ → ℕ → Bool → List ℕ → List ℕ → List ℕ → List ℕ → Card

@@ -34,19 +34,20 @@ fn put_answer(answer: &mut [u64], first: u64, second: u64, third: u64)
 pub extern "C" fn card_load(
     program: &[u8],
     edition: u8,
+    end: u16,
     image: &mut [u8],
     memory: &mut [u8],
     rows: &mut [u64],
     history: &mut [u8],
 ) -> u32
     ensures { λ r. ⌜ Leaves
-        (spec.cardLoad (now (program .entry)) edition (now (image .entry)) (now (memory .entry)) (bytesOf (now (rows .entry)))
+        (spec.cardLoad (now (program .entry)) edition end (now (image .entry)) (now (memory .entry)) (bytesOf (now (rows .entry)))
         (now (history .entry))) r (now (image .exit)) (now (memory .exit)) (bytesOf (now (rows .exit))) (now (history .exit)) ⌝ }
 {
     if image.len() != image::IMAGE {
         return 9;
     }
-    imaged::load(program, edition, image, memory, rows, history)
+    imaged::load(program, edition, end, image, memory, rows, history)
 }
 
 #[no_mangle]

@@ -36,15 +36,13 @@ pub fn change_at(place: &[u8]) -> Change
     Change::Nothing
 }
 
-// The change is no longer than its mark allows, and inside its buffer.
-fn is_allowed(c: Change) -> bool
-    ensures { λ r. ⌜ r ≡ allowed c ⌝ }
+// The change is no longer than its mark allows, and inside memory, which has that end, or the picture.
+fn is_allowed(c: Change, end: u16) -> bool
+    ensures { λ r. ⌜ r ≡ allowed end c ⌝ }
 {
     match c {
         Change::Nothing => true,
-        Change::InMemory(s, n) => (1 <= n)
-            & (n <= 16)
-            & (s as usize + n as usize <= Machine::MEMORY),
+        Change::InMemory(s, n) => (1 <= n) & (n <= 16) & (s as usize + n as usize <= end as usize),
         Change::InPicture(s, n) => (1 <= n)
             & (n as usize <= Machine::PICTURE)
             & (s as usize + n as usize <= Machine::PICTURE),
@@ -91,13 +89,13 @@ pub fn kind_sound(place: &[u8]) -> bool
     place[keeping::AT_KIND] <= 1
 }
 
-// Whether a record is damaged, beside a state of the present depth.
-pub fn is_damaged(place: &[u8], present: u8) -> bool
+// Whether a record is damaged, beside a state of that end and the present depth.
+pub fn is_damaged(place: &[u8], end: u16, present: u8) -> bool
     requires { ⌜ length (now place) ≡ placeSize ⌝ }
-    ensures { λ r. ⌜ r ≡ damaged (now (place .entry)) present ⌝ }
+    ensures { λ r. ⌜ r ≡ damaged end (now (place .entry)) present ⌝ }
 {
     !(is_known(place)
-        & is_allowed(change_at(place))
+        & is_allowed(change_at(place), end)
         & depth_sound(place, present)
         & key_sound(place)
         & kind_sound(place))

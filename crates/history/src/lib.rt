@@ -80,8 +80,8 @@ fn stack_at(place: &[u8], stack: [u16; Machine::STACK]) -> [u16; Machine::STACK]
     cut(s, depth)
 }
 
-// The state before the action, but for the number of lit spots. Of the state after it only that, the edition and the stack below the last
-// return address are used.
+// The state before the action, but for the number of lit spots. Of the state after it only that, the edition, the end and the stack
+// below the last return address are used.
 fn machine_at(place: &[u8], m: Machine) -> Machine
     requires { ⌜ length (now place) ≡ placeSize ⌝ }
     requires { ⌜ byteAt (now place) atDepth ≤ stackSize ⌝ }
@@ -104,6 +104,7 @@ fn machine_at(place: &[u8], m: Machine) -> Machine
         wait: wait_at(place),
         edition,
         lit: m.lit,
+        end: m.end,
     }
 }
 
@@ -125,7 +126,7 @@ pub fn read(place: &[u8], present: Machine) -> Restored
     requires { ⌜ length (now place) ≡ placeSize ⌝ }
     ensures { λ r. ⌜ r ≡ restored (now (place .entry)) present ⌝ }
 {
-    if damage::is_damaged(place, present.depth) {
+    if damage::is_damaged(place, present.end, present.depth) {
         return Restored {
             damaged: true,
             machine: present,

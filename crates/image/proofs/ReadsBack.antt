@@ -58,11 +58,11 @@ module _ (b : List ℕ) (small : Below 256 b) where
   low : (k : ℕ) → wordAt b k % 256 ≡ byteAt b (k + 1)
   low k = omega (arith, byte-small k, byte-small (k + 1))
 
-  whole : length b ≡ 64 → zeros (drop 58 b) ≡ true → b ≡ take 16 b ++ (bytes 42 16 b ++ zeroes 6)
+  whole : length b ≡ 64 → zeros (drop 60 b) ≡ true → b ≡ take 16 b ++ (bytes 44 16 b ++ zeroes 4)
   whole size clear =
-      let left : length (drop 58 b) ≡ 6 = simp (length-drop, size) in
+      let left : length (drop 60 b) ≡ 4 = simp (length-drop, size) in
       sym (take-append-drop 16 b)
-      ∙ ap (λ (l : List ℕ). take 16 b ++ l) (unroll 42 16 b (omega arith) ∙ ap (λ (l : List ℕ). bytes 42 16 b ++ l) (zeros-are (drop 58 b) clear ∙ ap zeroes left))
+      ∙ ap (λ (l : List ℕ). take 16 b ++ l) (unroll 44 16 b (omega arith) ∙ ap (λ (l : List ℕ). bytes 44 16 b ++ l) (zeros-are (drop 60 b) clear ∙ ap zeroes left))
 
 to-the-right : (x m s u n z : List ℕ) → x ++ m ++ s ++ u ++ n ++ z ≡ x ++ (m ++ (s ++ (u ++ (n ++ z))))
 to-the-right x m s u n z = simp append-assoc
@@ -71,7 +71,7 @@ pub reads-back : ReadsBack
 unfolding imageOf machineOf trailOf bytes
 reads-back b size small order =
     let m = machineOf b in
-    let (front, clear) = and-eq-true-iff (leb (byteAt b 52) 1 && eqb (byteAt b 53) 0) (zeros (drop 58 b)) .0 order in
+    let (front, clear) = and-eq-true-iff (leb (byteAt b 52) 1 && eqb (byteAt b 53) 0) (zeros (drop 60 b)) .0 order in
     let (known, unused) = and-eq-true-iff (leb (byteAt b 52) 1) (eqb (byteAt b 53) 0) .0 front in
     let none = sym (eqb-true (byteAt b 53) 0 unused) in
     let high = high b small in
@@ -84,7 +84,7 @@ reads-back b size small order =
     high 32 i ∷ low 32 i ∷ high 34 i ∷ low 34 i ∷ high 36 i ∷ low 36 i ∷ high 38 i ∷ low 38 i ∷
     high 40 i ∷ low 40 i ∷ high 42 i ∷ low 42 i ∷ high 44 i ∷ low 44 i ∷ high 46 i ∷ low 46 i ∷
     high 48 i ∷ low 48 i ∷ high 50 i ∷ low 50 i ∷ edition-back (byteAt b 52) (leb-true _ _ known) i ∷ none i ∷ high 54 i ∷ low 54 i ∷
-    high 56 i ∷ low 56 i ∷ zeroes 6))
+    high 56 i ∷ low 56 i ∷ high 58 i ∷ low 58 i ∷ zeroes 4))
     ∙ sym (whole b small size clear)
 
 -- ---- a state that its image holds whole
@@ -104,11 +104,11 @@ module _ (m : Machine) (t : Trail) (h : Storable m t) where
   at : (k : ℕ) → byteAt image (16 + k) ≡ byteAt rest k
   at k = ap (λ (b : List ℕ). byteAt b (16 + k)) split ∙ past (m .v) rest 16 k (h .typed .vs)
 
-  ends : drop 58 image ≡ replicate 6 0
+  ends : drop 60 image ≡ replicate 4 0
   unfolding imageOf
   ends =
       let front = m .v ++ middle m ++ sixFrom 0 (m .stack) ++ sixFrom 6 (m .stack) ++ numbers t in
-      sym (drop-drop 6 52 image) ∙ ap (drop 6) (drop-at front (tail m t) 52 (simp (length-append, h .typed .vs)))
+      sym (drop-drop 8 52 image) ∙ ap (drop 8) (drop-at front (tail m t) 52 (simp (length-append, h .typed .vs)))
 
   edition-known : (e : Edition) → leb (editionByte e) 1 ≡ true
   edition-known First = refl
@@ -162,6 +162,7 @@ comes-back m t h =
     let wait : waitOf (byteAt b 23) ≡ m .wait = ap waitOf (at 7) ∙ wait-back (m .wait) (sound-good m (h .typed) (h .sound) .wait) in
     let edition : editionOf (byteAt b 52) ≡ m .edition = ap editionOf (at 36) ∙ edition-kept (m .edition) in
     let lit = word-back b 56 (m .lit) (at 40) (at 41) (h .typed .lit) in
+    let end = word-back b 58 (m .end) (at 42) (at 43) (h .typed .end) in
     let next = word-back b 48 (t .next) (at 32) (at 33) (h .next) in
     let kept = word-back b 50 (t .kept) (at 34) (at 35) (h .kept) in
     let ahead = word-back b 54 (t .ahead) (at 38) (at 39) (h .ahead) in (
@@ -175,6 +176,7 @@ comes-back m t h =
         wait = wait j;
         edition = edition j;
         lit = lit j;
+        end = end j;
       },
       λ j. record { next = next j; kept = kept j; ahead = ahead j },
     )

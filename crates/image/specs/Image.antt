@@ -37,13 +37,14 @@ sixFrom k s = six (getD s k 0) (getD s (k + 1) 0) (getD s (k + 2) 0) (getD s (k 
 abbrev pub numbers : Trail → List ℕ
 numbers t = word (t .next) ++ word (t .kept)
 
--- 52: the edition, 0 for the first and 1 for the second; 54: ahead; 56: the number of lit spots; and zeros, kept for what is to come
+-- 52: the edition, 0 for the first and 1 for the second; 54: ahead; 56: the number of lit spots; 58: the end of memory; and zeros, kept for
+-- what is to come
 abbrev pub editionByte : Edition → ℕ
 editionByte First = 0
 editionByte Second = 1
 
 abbrev pub tail : Machine → Trail → List ℕ
-tail m t = (editionByte (m .edition) ∷ 0 ∷ []) ++ word (t .ahead) ++ word (m .lit) ++ replicate 6 0
+tail m t = (editionByte (m .edition) ∷ 0 ∷ []) ++ word (t .ahead) ++ word (m .lit) ++ word (m .end) ++ replicate 4 0
 
 unfoldable pub imageOf : Machine → Trail → List ℕ
 imageOf m t = m .v ++ middle m ++ sixFrom 0 (m .stack) ++ sixFrom 6 (m .stack) ++ numbers t ++ tail m t
@@ -63,7 +64,7 @@ editionOf b = pick (eqb b 1) Second First
 
 -- an image is in order if its edition is one of the two and the bytes that are kept are 0
 abbrev pub inOrder : List ℕ → Bool
-inOrder b = leb (byteAt b 52) 1 && eqb (byteAt b 53) 0 && zeros (drop 58 b)
+inOrder b = leb (byteAt b 52) 1 && eqb (byteAt b 53) 0 && zeros (drop 60 b)
 
 -- one that is not stands for an unsound state: its depth is 255
 abbrev pub depthOf : List ℕ → ℕ
@@ -81,6 +82,7 @@ machineOf b =
       wait = waitOf (byteAt b 23);
       edition = editionOf (byteAt b 52);
       lit = wordAt b 56;
+      end = wordAt b 58;
     }
 
 unfoldable pub trailOf : List ℕ → Trail

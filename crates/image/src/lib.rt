@@ -29,9 +29,9 @@ pub struct Standing {
 // Whether the last bytes, which are kept for later, are 0.
 fn ends_clear(image: &[u8]) -> bool
     requires { ⌜ length (now image) ≡ imageSize ⌝ }
-    ensures { λ r. ⌜ r ≡ zeros (drop 58 (now (image .entry))) ⌝ }
+    ensures { λ r. ⌜ r ≡ zeros (drop 60 (now (image .entry))) ⌝ }
 {
-    let mut k = 58;
+    let mut k = 60;
     while k < IMAGE {
         if image[k] != 0 {
             return false;
@@ -125,6 +125,7 @@ fn machine_in(image: &[u8]) -> Machine
         wait: wait_of(image[23]),
         edition: edition_of(image[52]),
         lit: memory::word_at(image, 56),
+        end: memory::word_at(image, 58),
     }
 }
 
@@ -188,8 +189,8 @@ fn tail_of(m: Machine, t: Trail) -> [u8; 12]
         memory::low(ahead),
         memory::high(m.lit),
         memory::low(m.lit),
-        0,
-        0,
+        memory::high(m.end),
+        memory::low(m.end),
         0,
         0,
         0,
@@ -242,7 +243,7 @@ fn lay_numbers(image: &mut [u8], t: Trail)
     put_word(image, 50, (t.kept % 65536) as u16);
 }
 
-// The edition, ahead, the number of lit spots, and zeros to the end.
+// The edition, ahead, the number of lit spots, the end of memory, and zeros.
 fn lay_tail(image: &mut [u8], m: Machine, t: Trail)
     requires { ⌜ length (now image) ≡ imageSize ⌝ }
     ensures { λ _. ⌜ Stands (tail m t) (now (image .entry)) 52 (now (image .exit)) 64 ⌝ }

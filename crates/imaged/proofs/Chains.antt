@@ -16,16 +16,16 @@ use Rattle.rules.specs.Number.{unless}
 use Rattle.rules.specs.State.{sound, fresh}
 use Rattle.rules.specs.Record.{byteAt, wordAt, actionAt}
 use Rattle.rules.specs.World.{World, Answer, world, boardOf, places, historyFits, buffersFit, trailFits, soundly, answered}
-use Rattle.rules.specs.Load.{load, loadRefusal, loaded, freshTrail, freshWorld}
+use Rattle.rules.specs.Load.{endOf, load, loadRefusal, loaded, freshTrail, freshWorld}
 use Rattle.rules.specs.Call.{step, stepRefusal, stepped, tick, tickRefusal, ticked, back, backRefusal, lastRecord, undone}
 use Rattle.rules.specs.Call.{forward, forwardRefusal, nextRecord, redone}
 use Rattle.rules.specs.Run.{run, runRefusal, play, playRefusal}
 use Rattle.rules.specs.Typed.{Below, none, more, TypedMachine, TypedBoard}
 use Rattle.rules.specs.Promise.{Gives}
-use Rattle.rules.proofs.Choices.{choice, by-test, passed}
+use Rattle.rules.proofs.Choices.{choice, by-test, and-both, passed}
 use Rattle.rules.proofs.Parts.{part-length, below-get, below-take, below-drop}
 use Rattle.rules.proofs.Sound.{good-sound}
-use Rattle.rules.proofs.Load.{fresh-typed}
+use Rattle.rules.proofs.Load.{end-in-use, fresh-typed}
 use Rattle.rules.proofs.Ready.{Ready, tests-ready, ready-typed, next-below, stepped-ready, undone-ready, redone-ready}
 use Rattle.rules.proofs.Stays.{play-lasts, run-lasts}
 use Rattle.image.specs.Image.{imageOf, editionOf, machineOf, trailOf, Storable}
@@ -39,7 +39,7 @@ ready-storable : (w : World) → Ready w → Storable (w .machine) (w .trail)
 ready-storable w h =
     record {
       typed = ready-typed w h .machine;
-      sound = good-sound (w .machine) (h .good .machine);
+      sound = good-sound (w .machine) (h .good .machine) (h .end);
       next = omega (arith, h .next, h .most);
       kept = omega (arith, h .limit, h .most);
       ahead = omega (arith, h .limit, h .most);
@@ -71,6 +71,7 @@ module _ (b : List ℕ) (size : length b ≡ 64) (small : Below 256 b) where
         delay = byte 21;
         tone = byte 22;
         lit = two 56;
+        end = two 58;
       }
 
 -- a tick tests no memory and no picture
@@ -94,6 +95,7 @@ ticked-storable w t e =
         delay = omega (arith, t .delay);
         tone = omega (arith, t .tone);
         lit = t .lit;
+        end = t .end;
       };
       sound = both .0;
       next = omega (arith, next-below r (w .trail .next) (ltb-true _ _ (range .0)));
@@ -131,19 +133,20 @@ module _ (img mem pic his : List ℕ) (lent : Lent img mem pic his) where
           let same = outer (eqb-false own 0 e) in
           ap (λ (w : World). worldOf img (w .memory) (w .picture) (w .history)) same ∙ sym same
 
-  fresh-storable : (edition : Edition) → Storable (fresh edition) freshTrail
-  fresh-storable edition = record { typed = fresh-typed edition; sound = refl; next = omega arith; kept = omega arith; ahead = omega arith }
+  fresh-storable : (edition : Edition) (end : ℕ) → Storable (fresh edition (endOf end)) freshTrail
+  fresh-storable edition end =
+      record { typed = fresh-typed edition end; sound = and-both refl (end-in-use end); next = omega arith; kept = omega arith; ahead = omega arith }
 
-  known-stands : (edition : Edition) (program : List ℕ) → let a = load edition program mem pic his in standing (shown true img a) ≡ a .world
+  known-stands : (edition : Edition) (end : ℕ) (program : List ℕ) → let a = load edition end program mem pic his in standing (shown true img a) ≡ a .world
   unfolding load
-  known-stands edition program =
-      by-test (λ (a : Answer). standing (shown true img a) ≡ a .world) (loadRefusal program mem pic his) 0
-      (λ e. stands (loaded edition program his) (fresh-storable edition)) (λ ne. stands (freshWorld edition mem pic his) (fresh-storable edition))
+  known-stands edition end program =
+      by-test (λ (a : Answer). standing (shown true img a) ≡ a .world) (loadRefusal end program mem pic his) 0
+      (λ e. stands (loaded edition end program his) (fresh-storable edition end)) (λ ne. stands (freshWorld edition end mem pic his) (fresh-storable edition end))
 
-  load-stands : (edition : ℕ) (program : List ℕ) → let a = loadBy edition program mem pic his in standing (shown true img a) ≡ a .world
-  load-stands edition program =
-      choice (λ (a : Answer). standing (shown true img a) ≡ a .world) (leb edition 1) (known-stands (editionOf edition) program)
-      (stands (freshWorld First mem pic his) (fresh-storable First))
+  load-stands : (edition end : ℕ) (program : List ℕ) → let a = loadBy edition end program mem pic his in standing (shown true img a) ≡ a .world
+  load-stands edition end program =
+      choice (λ (a : Answer). standing (shown true img a) ≡ a .world) (leb edition 1) (known-stands (editionOf edition) end program)
+      (stands (freshWorld First end mem pic his) (fresh-storable First end))
 
   step-stands : (keys random : ℕ) → standing (whole img (step keys random here)) ≡ (step keys random here) .world
   unfolding step stepRefusal

@@ -1,9 +1,9 @@
 -- What a call of the library gave, seen through the image.
 use mathlib.Core.Path.{_≡_, refl, ap, ap₂, _∙_}
-use mathlib.Core.Bool.{Bool, true, false, false≢true, _&&_, and-eq-true-iff}
+use mathlib.Core.Bool.{Bool, true, false, false≢true, and-eq-true-iff}
 use mathlib.Core.List.{List}
 use Prim.Native.Nat.{ℕ}
-use lib.ListN.{length, drop}
+use lib.ListN.{length}
 use lib.Dec.{eqb, leb}
 use borrow.Author.Tests.{ne-eqb}
 use Rattle.rules.specs.declared.Machine.{Machine}
@@ -11,13 +11,14 @@ use Rattle.rules.specs.declared.Trail.{Trail}
 use Rattle.rules.specs.declared.Outcome.{Outcome}
 use Rattle.rules.specs.Number.{pick}
 use Rattle.rules.specs.Refusal.{number}
-use Rattle.rules.specs.State.{zeros, heldSound, sound}
+use Rattle.rules.specs.State.{sound}
 use Rattle.rules.specs.Record.{byteAt}
 use Rattle.rules.specs.World.{World, Answer, trailFits, soundly}
 use Rattle.rules.specs.Typed.{Below}
 use Rattle.rules.specs.Run.{listsFit, movesFit, run, runRefusal, play, playRefusal}
 use Rattle.rules.specs.Promise.{Gives}
 use Rattle.rules.proofs.Choices.{by-test}
+use Rattle.rules.proofs.Sound.{sound-parts}
 use Rattle.rules.proofs.Given.{tested-sound}
 use Rattle.image.specs.Image.{inOrder, imageOf, machineOf, trailOf}
 use Rattle.image.proofs.ReadsBack.{reads-back}
@@ -62,11 +63,7 @@ order-depth false depth e = absurd (false≢true e)
 -- an image that stands for a sound state is in order
 sound-order : (b : List ℕ) → sound (machineOf b) ≡ true → inOrder b ≡ true
 unfolding machineOf
-sound-order b e =
-    let m = machineOf b in
-    let whole = and-eq-true-iff (leb (m .depth) 12 && zeros (drop (m .depth) (m .stack)) && heldSound (m .wait)) (leb (m .lit) 2048) .0 e in
-    let first = and-eq-true-iff (leb (m .depth) 12 && zeros (drop (m .depth) (m .stack))) (heldSound (m .wait)) .0 (whole .0) in
-    order-depth (inOrder b) (byteAt b 20) (and-eq-true-iff (leb (m .depth) 12) (zeros (drop (m .depth) (m .stack))) .0 (first .0) .0)
+sound-order b e = order-depth (inOrder b) (byteAt b 20) (sound-parts (machineOf b) e .depth)
 
 -- where its own tests admit it the image stands for a sound state, and where they do not the call hands back the world as it came: so what
 -- is written, wherever the image is in order, is what the definition says

@@ -39,12 +39,12 @@ shown anew image a =
     }
 
 -- a load of the edition that a byte names: where it names none that is 10, between 9 and 8, and the fresh state is of the first edition
-abbrev pub loadBy : ℕ → List ℕ → List ℕ → List ℕ → List ℕ → Answer
-loadBy edition program memory picture history =
-    pick (leb edition 1) (load (editionOf edition) program memory picture history)
+abbrev pub loadBy : ℕ → ℕ → List ℕ → List ℕ → List ℕ → List ℕ → Answer
+loadBy edition end program memory picture history =
+    pick (leb edition 1) (load (editionOf edition) end program memory picture history)
     (record {
       refusal = unless (sizesFit memory picture history) (numberOf BufferLength) (numberOf Unsound);
-      world = freshWorld First memory picture history;
+      world = freshWorld First end memory picture history;
     })
 
 -- an accepted call writes the image
@@ -85,7 +85,7 @@ abbrev pub standing : Card → World
 standing c = worldOf (c .image) (c .memory) (c .picture) (c .history)
 
 pub record Chains (img mem pic his : List ℕ) : Type 0 where
-  pub load : (edition : ℕ) (program : List ℕ) → let a = loadBy edition program mem pic his in standing (shown true img a) ≡ a .world
+  pub load : (edition end : ℕ) (program : List ℕ) → let a = loadBy edition end program mem pic his in standing (shown true img a) ≡ a .world
   pub step : (keys random : ℕ) → let a = step keys random (worldOf img mem pic his) in standing (whole img a) ≡ a .world
   pub tick : let a = tick (worldOf img mem pic his) in standing (whole img a) ≡ a .world
   pub back : let a = back (worldOf img mem pic his) in standing (whole img a) ≡ a .world

@@ -11,7 +11,7 @@ ghost use Rattle.rules.specs.Number.{pick, unless};
 ghost use Rattle.rules.specs.Refusal as refusal;
 ghost use Rattle.rules.specs.State.{fresh};
 ghost use Rattle.rules.specs.World.{sizesFit};
-ghost use Rattle.rules.specs.Load.{freshTrail};
+ghost use Rattle.rules.specs.Load.{endOf, freshTrail};
 ghost use Rattle.rules.specs.Load as rules_load;
 ghost use Rattle.rules.specs.Call as rules_call;
 ghost use Rattle.rules.specs.Dark.{stepDark};
@@ -70,6 +70,7 @@ pub fn after_call(image: &mut [u8], answer: Answer) -> u32
 // A load leaves the fresh image, refused or not.
 fn load_known(
     edition: Edition,
+    end: u16,
     program: &[u8],
     image: &mut [u8],
     memory: &mut [u8],
@@ -79,10 +80,10 @@ fn load_known(
     requires { ⌜ length (now image) ≡ imageSize ⌝ }
     ensures { λ r. ⌜ Leaves
         (shown true (now (image .entry))
-        (rules_load.load edition (now (program .entry)) (now (memory .entry)) (bytesOf (now (rows .entry))) (now (history .entry)))) r
+        (rules_load.load edition end (now (program .entry)) (now (memory .entry)) (bytesOf (now (rows .entry))) (now (history .entry)))) r
         (now (image .exit)) (now (memory .exit)) (bytesOf (now (rows .exit))) (now (history .exit)) ⌝ }
 {
-    let answer = chip8::load(edition, program, memory, rows, history);
+    let answer = chip8::load(edition, end, program, memory, rows, history);
     let m = answer.machine;
     let t = answer.trail;
     image::write(image, m, t);
@@ -91,14 +92,14 @@ fn load_known(
 }
 
 // An edition that there is not: 9 comes before 10, and the fresh image is of the first edition.
-fn load_unknown(image: &mut [u8], memory: &[u8], rows: &[u64], history: &[u8]) -> u32
+fn load_unknown(end: u16, image: &mut [u8], memory: &[u8], rows: &[u64], history: &[u8]) -> u32
     requires { ⌜ length (now image) ≡ imageSize ⌝ }
     ensures { λ r. ⌜ (r ≡ unless (sizesFit (now (memory .entry)) (bytesOf (now (rows .entry))) (now (history .entry))) 9 10)
-        × (now (image .exit) ≡ imageOf (fresh First) freshTrail) ⌝ }
+        × (now (image .exit) ≡ imageOf (fresh First (endOf end)) freshTrail) ⌝ }
 {
     image::write(
         image,
-        Machine::fresh(Edition::First),
+        Machine::fresh(Edition::First, judge::end_of(end)),
         Trail {
             next: 0,
             kept: 0,
@@ -112,10 +113,11 @@ fn load_unknown(image: &mut [u8], memory: &[u8], rows: &[u64], history: &[u8]) -
     }
 }
 
-// A load of the edition that a byte names.
+// A load of the edition that a byte names, with an end of memory.
 pub fn load(
     program: &[u8],
     edition: u8,
+    end: u16,
     image: &mut [u8],
     memory: &mut [u8],
     rows: &mut [u64],
@@ -124,14 +126,15 @@ pub fn load(
     requires { ⌜ length (now image) ≡ imageSize ⌝ }
     ensures { λ r. ⌜ Leaves
         (shown true (now (image .entry))
-        (loadBy edition (now (program .entry)) (now (memory .entry)) (bytesOf (now (rows .entry))) (now (history .entry)))) r
+        (loadBy edition end (now (program .entry)) (now (memory .entry)) (bytesOf (now (rows .entry))) (now (history .entry)))) r
         (now (image .exit)) (now (memory .exit)) (bytesOf (now (rows .exit))) (now (history .exit)) ⌝ }
 {
     if 1 < edition {
-        return load_unknown(image, memory, rows, history);
+        return load_unknown(end, image, memory, rows, history);
     }
     load_known(
         image::edition_of(edition),
+        end,
         program,
         image,
         memory,

@@ -8,6 +8,7 @@ ghost use Rattle.rules.specs.declared.Refusal.the-variants.{BufferLength, Unsou
 ghost use Rattle.rules.specs.Number.{unless};
 ghost use Rattle.rules.specs.Refusal.{numberOf, number};
 ghost use Rattle.rules.specs.State as state;
+ghost use Rattle.rules.specs.Load.{endOf};
 ghost use Rattle.rules.specs.World as fit;
 ghost use Rattle.rules.specs.World.{world};
 ghost use Rattle.rules.specs.Typed.{Below, TypedMachine};
@@ -50,6 +51,23 @@ fn held_sound(wait: Wait) -> bool
     }
 }
 
+// One of the two ends in use.
+pub fn end_sound(end: u16) -> bool
+    ensures { λ r. ⌜ r ≡ state.endSound end ⌝ }
+{
+    (end as usize == Machine::SMALL_END) | (end as usize == Machine::MEMORY)
+}
+
+// The end that a load hands back: the one that was asked for, where it is in use.
+pub fn end_of(end: u16) -> u16
+    ensures { λ r. ⌜ r ≡ endOf end ⌝ }
+{
+    if end_sound(end) {
+        return end;
+    }
+    Machine::MEMORY as u16
+}
+
 // Whether the stack is clear from `at` on.
 fn clear_from(stack: [u16; Machine::STACK], at: usize) -> bool
     requires { ⌜ at ≤ 12 ⌝ }
@@ -74,7 +92,10 @@ pub fn is_sound(m: Machine) -> bool
     }
     let stack = m.stack;
     let wait = m.wait;
-    clear_from(stack, depth) & held_sound(wait) & (m.lit as usize <= Machine::SPOTS)
+    clear_from(stack, depth)
+        & held_sound(wait)
+        & (m.lit as usize <= Machine::SPOTS)
+        & end_sound(m.end)
 }
 
 // Kept plus ahead is at most R: what is left beside the kept ones is at least what stands ahead, so that no sum can pass its type.

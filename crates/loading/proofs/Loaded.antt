@@ -1,13 +1,11 @@
 -- A load: what it gives where it is refused, what its parts ask, and what they leave in memory.
 use mathlib.Core.Path.{_≡_, refl, sym, ap, ap₂, _∙_}
-use mathlib.Core.Bool.{_&&_, and-eq-true-iff}
 use mathlib.Core.List.{List, _++_, append-assoc}
 use Prim.Native.Nat.{ℕ, _+_, _-_, _≤_}
 use native.Mathlib.Nat.{sub-zero}
+use native.Mathlib.Omega.{arith}
 use lib.ListN.{length, take, drop, replicate, length-append, length-replicate, replicate-append-replicate}
 use lib.Seq.{take-at, drop-append-add}
-use lib.Dec.{leb}
-use borrow.Author.Tests.{leb-true}
 use Rattle.rules.specs.declared.Edition.{Edition}
 use Rattle.rules.specs.declared.Edition.the-variants.{First}
 use Rattle.rules.specs.declared.Refusal.{Refusal}
@@ -15,12 +13,12 @@ use Rattle.rules.specs.declared.Outcome.the-variants.{Done, Refused}
 use Rattle.rules.specs.Refusal.{number}
 use Rattle.rules.specs.State.{fresh}
 use Rattle.rules.specs.Memory.{over}
-use Rattle.rules.specs.World.{sizesFit}
-use Rattle.rules.specs.Load.{digits, freshTrail, freshWorld, loaded, loadedMemory, load, loadRefusal}
+use Rattle.rules.specs.Load.{digits, endOf, freshTrail, freshWorld, loaded, loadedMemory, load, loadRefusal}
 use Rattle.rules.specs.Promise.{Gives}
-use Rattle.rules.proofs.Choices.{passed}
 use Rattle.rules.proofs.Parts.{zeroes, drop-zeros}
+use Rattle.rules.proofs.Sound.{end-good}
 use Rattle.rules.proofs.Ready.{fits-passed}
+use Rattle.rules.proofs.Load.{load-passed}
 use Rattle.rules.proofs.Given.{given-refused, answered-done}
 
 -- ---- memory: the digits, zeros to the end, and the program laid over them
@@ -60,32 +58,26 @@ pub record Room (program mem pic : List ℕ) : Type 0 where
   pub picture : length pic ≡ 256
   pub short : length program ≤ 3584
 
-pub load-room : (program memory picture history : List ℕ) → loadRefusal program memory picture history ≡ 0 → Room program memory picture
-unfolding loadRefusal
-load-room program memory picture history e =
-    let first = passed (sizesFit memory picture history) 8 _ e in
-    let second = passed (leb 1 (length program) && leb (length program) 3584) 7 0 (first .1) in
-    let sizes = fits-passed (freshWorld First memory picture history) (first .0) in
-    record {
-      memory = sizes .memory;
-      picture = sizes .picture;
-      short = leb-true _ _ (and-eq-true-iff (leb 1 (length program)) (leb (length program) 3584) .0 (second .0) .1);
-    }
+pub load-room : (end : ℕ) (program memory picture history : List ℕ) → loadRefusal end program memory picture history ≡ 0 → Room program memory picture
+load-room end program memory picture history e =
+    let (fits, in-use, short) = load-passed end program memory picture history e in
+    let sizes = fits-passed (freshWorld First end memory picture history) fits in
+    record { memory = sizes .memory; picture = sizes .picture; short = omega (arith, short, end-good end in-use .most) }
 
-module _ (edition : Edition) (program memory picture history : List ℕ) where
-  pub load-refused : (r : Refusal) → number (Refused r) ≡ loadRefusal program memory picture history
-      → Gives (load edition program memory picture history) (Refused r) (fresh edition) freshTrail memory picture history
+module _ (edition : Edition) (end : ℕ) (program memory picture history : List ℕ) where
+  pub load-refused : (r : Refusal) → number (Refused r) ≡ loadRefusal end program memory picture history
+      → Gives (load edition end program memory picture history) (Refused r) (fresh edition (endOf end)) freshTrail memory picture history
   unfolding load
   load-refused r e =
-      given-refused (loadRefusal program memory picture history) (loaded edition program history) (freshWorld edition memory picture history) r e
+      given-refused (loadRefusal end program memory picture history) (loaded edition end program history) (freshWorld edition end memory picture history) r e
 
   -- every spot is dark, and the history is cleared from its first byte on
-  pub load-gives : loadRefusal program memory picture history ≡ 0 → (mem pic his : List ℕ) → mem ≡ loadedMemory program
+  pub load-gives : loadRefusal end program memory picture history ≡ 0 → (mem pic his : List ℕ) → mem ≡ loadedMemory program
       → pic ≡ replicate 256 0 → his ≡ take 0 history ++ replicate (length history - 0) 0
-      → Gives (load edition program memory picture history) Done (fresh edition) freshTrail mem pic his
+      → Gives (load edition end program memory picture history) Done (fresh edition (endOf end)) freshTrail mem pic his
   unfolding load
   load-gives e mem pic his em ep eh =
-      rw (answered-done (loadRefusal program memory picture history) (loaded edition program history) (freshWorld edition memory picture history) e)
+      rw (answered-done (loadRefusal end program memory picture history) (loaded edition end program history) (freshWorld edition end memory picture history) e)
       (record {
         says = refl;
         machine = refl;

@@ -1,7 +1,7 @@
 -- The bytes that a step's record is written of are there: a change in memory lies in it, and one in the picture is of whole rows.
 use mathlib.Core.Path.{_≡_, refl}
 use mathlib.Core.List.{List}
-use Prim.Native.Nat.{ℕ, _*_, _%_}
+use Prim.Native.Nat.{ℕ, _*_, _%_, _≤_}
 use native.Mathlib.Omega.{arith}
 use lib.Dec.{eqb}
 use lib.ListN.{length}
@@ -39,11 +39,11 @@ whole-rows (Fetch x) m = tt
 whole-rows Unlisted m = tt
 whole-rows MachineCode m = tt
 
-pub reaches : (memory rows : List ℕ) → length memory ≡ 4096 → length rows ≡ 32 → (op : Op) (m : Machine) → Fits (changeOf op m)
-    → Reaches (changeOf op m) memory rows
-reaches memory rows sized rows-sized op m fits = go (changeOf op m) fits (whole-rows op m)
+pub reaches : (memory rows : List ℕ) → length memory ≡ 4096 → length rows ≡ 32 → (op : Op) (m : Machine) → m .end ≤ 4096
+    → Fits (m .end) (changeOf op m) → Reaches (changeOf op m) memory rows
+reaches memory rows sized rows-sized op m most fits = go (changeOf op m) fits (whole-rows op m)
   where
-    go : (c : Change) → Fits c → Whole c → Reaches c memory rows
+    go : (c : Change) → Fits (m .end) c → Whole c → Reaches c memory rows
     go Nothing f w = tt
-    go (InMemory s n) f w = (omega (arith, f .1), omega (arith, f .2, sized))
+    go (InMemory s n) f w = (omega (arith, f .1), omega (arith, f .2, most, sized))
     go (InPicture s n) f w = (w .0, w .1, f .2, rows-sized)

@@ -1,7 +1,7 @@
 -- A step of a world that passed the tests 9 and 10: what it gives where it is refused, what its parts ask, and what they make together.
 use mathlib.Core.Path.{_≡_, refl, sym, ap, _∙_}
 use mathlib.Core.List.{List}
-use Prim.Native.Nat.{ℕ, _+_, _*_, _≤_, _<_}
+use Prim.Native.Nat.{ℕ, _+_, _-_, _*_, _≤_, _<_}
 use native.Mathlib.Omega.{arith}
 use lib.ListN.{length, getD}
 use borrow.Author.Tests.{le-leb, lt-leb, eq-eqb, ne-eqb}
@@ -67,8 +67,8 @@ module _ (w : World) (h : Ready w) where
   abbrev verdict : Op → ℕ
   verdict op = orLater (refusalOf op m) (litRefusal (m .lit) (w .picture) (pictureAfter op m (w .memory) (w .picture)))
 
-  near-left : m .pc ≤ 4094 → stepRefusal w ≡ verdict (opAt (boardOf w))
-  near-left near = step-own w h ∙ rw (le-leb (m .pc) 4094 near)
+  near-left : m .pc ≤ m .end - 2 → stepRefusal w ≡ verdict (opAt (boardOf w))
+  near-left near = step-own w h ∙ rw (le-leb (m .pc) (m .end - 2) near)
 
   -- a refused step darkens nothing, and copies nothing
   refused-dark : (r : Refusal) → number (Refused r) ≡ stepRefusal w → stepDark w ≡ 0
@@ -79,9 +79,9 @@ module _ (w : World) (h : Ready w) where
   unfolding stepCopied
   refused-copied r e = rw (ne-eqb (stepRefusal w) 0 (λ z. refused-some r (e ∙ z)))
 
-  module _ (past : 4094 < m .pc) where
+  module _ (past : m .end - 2 < m .pc) where
     far-says : number (Refused PcPastEnd) ≡ stepRefusal w
-    far-says = sym (step-own w h ∙ rw (lt-leb (m .pc) 4094 past))
+    far-says = sym (step-own w h ∙ rw (lt-leb (m .pc) (m .end - 2) past))
 
     pub far : (keys random : ℕ) → Back (step keys random w) (Refused PcPastEnd) w
     unfolding step
@@ -93,7 +93,7 @@ module _ (w : World) (h : Ready w) where
     pub far-copied : stepCopied w ≡ 0
     far-copied = refused-copied PcPastEnd far-says
 
-  module _ (op : Op) (r : Refusal) (e : op ≡ opAt (boardOf w)) (near : m .pc ≤ 4094) (n : number (Refused r) ≡ verdict op) where
+  module _ (op : Op) (r : Refusal) (e : op ≡ opAt (boardOf w)) (near : m .pc ≤ m .end - 2) (n : number (Refused r) ≡ verdict op) where
     judged-says : number (Refused r) ≡ stepRefusal w
     judged-says = n ∙ ap verdict e ∙ sym (near-left near)
 
@@ -120,15 +120,15 @@ module _ (w : World) (h : Ready w) where
         range = record { next = h .next; kept = omega (arith, h .limit); few = omega (arith, h .most) };
       }
 
-  module _ (op : Op) (e : op ≡ opAt (boardOf w)) (near : m .pc ≤ 4094) (allowed : verdict op ≡ 0) where
+  module _ (op : Op) (e : op ≡ opAt (boardOf w)) (near : m .pc ≤ m .end - 2) (allowed : verdict op ≡ 0) where
     passes : stepRefusal w ≡ 0
     passes = near-left near ∙ rw e at allowed
 
-    kept-fits : Fits (changeOf op m)
+    kept-fits : Fits (m .end) (changeOf op m)
     kept-fits = rw e ((stepped-follows w h 0 0 passes) .undoable .fits)
 
     pub step-reaches : (rows : List ℕ) → length rows ≡ 32 → Reaches (changeOf op m) (w .memory) rows
-    step-reaches rows sized = reaches (w .memory) rows (h .good .memory .size) sized op m kept-fits
+    step-reaches rows sized = reaches (w .memory) rows (h .good .memory .size) sized op m (h .good .machine .end .most) kept-fits
 
     -- the record, kept in its two parts
     pub step-kept : (rows h₁ h₂ : List ℕ) (a : Action) → length rows ≡ 32
@@ -141,7 +141,8 @@ module _ (w : World) (h : Ready w) where
     pub accepted : (rows : List ℕ) → w .picture ≡ bytesOf rows → length rows ≡ 32 → Accepted op m (w .memory) rows
     accepted rows is sized =
         record {
-          near = near;
+          end = h .good .machine .end .most;
+          near = omega (arith, near, h .good .machine .end .most);
           shallow = h .good .machine .calls .most;
           allowed = both-zero (refusalOf op m) _ allowed .0;
           passes = rw is at (both-zero (refusalOf op m) _ allowed .1);

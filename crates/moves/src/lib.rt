@@ -63,7 +63,7 @@ pub fn step(
         (now (history .entry)))) × (r .copied ≤ 256) ⌝ }
 {
     let at = c.pc as usize;
-    if Machine::MEMORY - 2 < at {
+    if c.end as usize - 2 < at {
         return Stepped {
             outcome: Outcome::Refused(Refusal::PcPastEnd),
             core: c,

@@ -7,7 +7,7 @@ use lib.ListN.{replicate}
 use lib.Dec.{T}
 use Rattle.rules.specs.declared.Edition.the-variants.{First}
 use Rattle.rules.specs.declared.Machine.{Machine}
-use Rattle.rules.specs.State.{pictureSize, fresh, withV, withPc}
+use Rattle.rules.specs.State.{memorySize, pictureSize, fresh, withV, withPc}
 use Rattle.rules.specs.Number.{same}
 use Rattle.rules.specs.Picture.{bytesFrom}
 use Rattle.page_spots.specs.Page.{pageSpot}
@@ -48,7 +48,7 @@ abbrev down : List ℕ
 down = 0xFE ∷ 0xDC ∷ 0xBA ∷ 0x98 ∷ 0x76 ∷ 0x54 ∷ 0x32 ∷ 0x10 ∷ []
 
 abbrev counting : List ℕ → Machine
-counting v = withV v (withPc 0x0ABC (fresh First))
+counting v = withV v (withPc 0x0ABC (fresh First memorySize))
 
 -- 01 23 45 67
 abbrev v0 : List ℕ
@@ -105,7 +105,7 @@ pc =
 abbrev shows : Machine → List ℕ → Bool
 shows m expected = same (page m) expected && same (bytesFrom (pageSpot m) pictureSize 0) expected
 
-fresh-page : T (shows (fresh First) (rows noughts noughts noughts noughts start))
+fresh-page : T (shows (fresh First memorySize) (rows noughts noughts noughts noughts start))
 unfolding pageSpot pageByte pageOf
 fresh-page = tt
 

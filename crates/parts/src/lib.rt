@@ -23,6 +23,7 @@ pub struct Core {
     pub wait: Wait,
     pub edition: Edition,
     pub lit: u16,
+    pub end: u16,
 }
 
 pub fn core_of(m: Machine) -> Core
@@ -39,6 +40,7 @@ pub fn core_of(m: Machine) -> Core
         wait,
         edition,
         lit: m.lit,
+        end: m.end,
     }
 }
 
@@ -58,6 +60,7 @@ pub fn whole(c: Core, v: [u8; 16], stack: [u16; Machine::STACK]) -> Machine
         wait,
         edition,
         lit: c.lit,
+        end: c.end,
     }
 }
 

@@ -116,6 +116,7 @@ fn with_wait(c: Core, w: Wait) -> Core
         wait: w,
         edition,
         lit: c.lit,
+        end: c.end,
     }
 }
 

@@ -3,6 +3,7 @@
 ghost use mathlib.Core.Path.{_≡_};
 ghost use Prim.Native.Nat.{_≤_};
 ghost use lib.ListN.{length};
+ghost use Rattle.rules.specs.State.{memorySize};
 ghost use Rattle.rules.specs.World.{world, places};
 ghost use Rattle.rules.specs.Record.{placeSize, memoryAt, pictureAt};
 ghost use Rattle.rules.specs.Call as rule;
@@ -21,7 +22,7 @@ use rules::Trail;
 
 // Puts the old bytes of a record back where they stood.
 fn put_back(change: Change, place: &[u8], memory: &mut [u8], rows: &mut [u64])
-    requires { ⌜ (length (now place) ≡ placeSize) × (length (now memory) ≡ 4096) × (length (now rows) ≡ 32) × Fits change ⌝ }
+    requires { ⌜ (length (now place) ≡ placeSize) × (length (now memory) ≡ memorySize) × (length (now rows) ≡ 32) × Fits memorySize change ⌝ }
     ensures { λ _. ⌜ now (memory .exit) ≡ memoryAt change (now (place .entry)) (now (memory .entry)) ⌝ }
     ensures { λ _. ⌜ bytesOf (now (rows .exit)) ≡ pictureAt change (now (place .entry)) (bytesOf (now (rows .entry))) ⌝ }
 {
@@ -40,7 +41,7 @@ fn put_back(change: Change, place: &[u8], memory: &mut [u8], rows: &mut [u64])
 
 // How many lit spots that would turn dark, and how many dark ones lit. Nothing is written yet.
 fn would_put_back(change: Change, place: &[u8], rows: &[u64]) -> Spots
-    requires { ⌜ (length (now place) ≡ placeSize) × (length (now rows) ≡ 32) × Fits change ⌝ }
+    requires { ⌜ (length (now place) ≡ placeSize) × (length (now rows) ≡ 32) × Fits memorySize change ⌝ }
     ensures { λ r. ⌜ Balance r (bytesOf (now (rows .entry))) (pictureAt change (now (place .entry)) (bytesOf (now (rows .entry)))) ⌝ }
     ensures { λ r. ⌜ (r .dark ≤ 2048) × (r .lit ≤ 2048) ⌝ }
 {

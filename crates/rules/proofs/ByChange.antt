@@ -112,10 +112,10 @@ only-differ Nothing b b′ o = o .1
 only-differ (InMemory s n) b b′ o = o .1
 only-differ (InPicture s n) b b′ o = o .1
 
-restored-differ : (c : Change) (r P : List ℕ) → Bytes 292 r → Bytes 256 P → Fits c → Differ c P (pictureAt c r P)
-restored-differ Nothing r P h g f = refl
-restored-differ (InMemory s n) r P h g f = refl
-restored-differ (InPicture s n) r P h g f =
+restored-differ : (end : ℕ) (c : Change) (r P : List ℕ) → Bytes 292 r → Bytes 256 P → Fits end c → Differ c P (pictureAt c r P)
+restored-differ end Nothing r P h g f = refl
+restored-differ end (InMemory s n) r P h g f = refl
+restored-differ end (InPicture s n) r P h g f =
     let sized = part-length r 32 n (omega (arith, f, h .size)) in
     let room : s + n ≤ length P = omega (arith, f, g .size) in
     record { before = over-take P (part r 32 n) s n room sized; behind = over-drop P (part r 32 n) s n room sized }
@@ -152,7 +152,7 @@ module _ (w : World) (t : TypedBoard (boardOf w)) where
       let r = lastRecord w in
       let c = changeAt r in
       grows c (w .machine .lit) (w .picture) (pictureAt c r (w .picture)) (ready .good .picture) (undone-ready w ready bytes e .good .picture)
-      (restored-differ c r (w .picture) (last-place w ready bytes) (ready .good .picture) (last-usable w ready e .fits))
+      (restored-differ (w .machine .end) c r (w .picture) (last-place w ready bytes) (ready .good .picture) (last-usable w e .fits))
       (back-passed w e .2)
 
 pub lit-by-change : TypedLitByChange

@@ -174,6 +174,7 @@ counted-good b c g e =
         timers = m .timers;
         wait = m .wait;
         lit = lit-range (b .machine .lit) (b .picture) (c .picture) e;
+        end = m .end;
       };
       memory = g .memory;
       picture = g .picture;

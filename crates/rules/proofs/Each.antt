@@ -29,7 +29,7 @@ module _ (P : World → Type 0) (l : Lasts P) where
   made-lasts aBack w h = answer-lasts (backRefusal w) (undone (lastRecord w) w) w (λ e. l .back w e h) h
   made-lasts aForward w h = answer-lasts (forwardRefusal w) (redone (actionAt (nextRecord w)) w) w (λ e. l .forward w e h) h
 
-  ticks-last : (n : ℕ) (w : World) → P w → P (tickedBy n w)
+  pub ticks-last : (n : ℕ) (w : World) → P w → P (tickedBy n w)
   ticks-last zero w h = h
   ticks-last (suc n) w h = ticks-last n (ticked w) (l .tick w h)
 
@@ -59,6 +59,18 @@ module _ (P : World → Type 0) (l : Lasts P) where
         run = λ ticks keys randoms w h. choice (λ (q : Ran). P (q .answer .world)) (eqb (runRefusal ticks keys randoms w) 0) (runs-last 0 ticks keys randoms w h) h;
         play = λ moves keys randoms w h. choice (λ (a : Answer). P (a .world)) (eqb (playRefusal moves keys randoms w) 0) (plays-last (movesOf moves keys randoms) _ h) h;
       }
+
+-- what a claim on any call gives, given of each
+pub each-map : {P Q : (World → Answer) → Type 0} → ((call : World → Answer) → P call → Q call) → EachCall P → EachCall Q
+each-map f e =
+    record {
+      step = λ keys random. f _ (e .step keys random);
+      tick = f _ (e .tick);
+      back = f _ (e .back);
+      forward = f _ (e .forward);
+      run = λ ticks keys randoms. f _ (e .run ticks keys randoms);
+      play = λ moves keys randoms. f _ (e .play moves keys randoms);
+    }
 
 -- what lasts of the world that a call is given
 pub each-from : (P : World → World → Type 0) → ((w : World) → Lasts (P w)) → ((w : World) → P w w)

@@ -22,8 +22,8 @@ use Rattle.rules.proofs.Each.{Lasts, each-from}
 
 pub load-chooses : LoadChooses
 unfolding load
-load-chooses edition program memory picture history =
-    choice (λ (a : Answer). a .world .machine .edition ≡ edition) (eqb (loadRefusal program memory picture history) 0) refl refl
+load-chooses edition end program memory picture history =
+    choice (λ (a : Answer). a .world .machine .edition ≡ edition) (eqb (loadRefusal end program memory picture history) 0) refl refl
 
 -- ---- kept
 

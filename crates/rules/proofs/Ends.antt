@@ -2,7 +2,7 @@
 use mathlib.Core.Path.{_≡_, refl, sym, _∙_}
 use mathlib.Core.Bool.{Bool, true, false, not}
 use mathlib.Core.List.{List, [], _∷_}
-use Prim.Native.Nat.{ℕ, _+_}
+use Prim.Native.Nat.{ℕ, _+_, _-_}
 use native.Mathlib.Omega.{arith}
 use lib.Dec.{eqb, ltb, leb}
 use Rattle.rules.specs.declared.Action.{Action}
@@ -66,7 +66,7 @@ other-unless true a b = b
 other-unless false a b = a
 
 six-or-none : (m : Machine) (n : ℕ) → Other (past m n)
-six-or-none m n = other-unless (leb (reach m n) 4096) (λ e. omega arith) (λ e. omega arith)
+six-or-none m n = other-unless (leb (reach m n) (m .end)) (λ e. omega arith) (λ e. omega arith)
 
 other-op : (op : Op) (m : Machine) → Other (refusalOf op m)
 unfolding refusalOf
@@ -83,7 +83,7 @@ other-op Unlisted m e = omega arith
 other-op MachineCode m e = omega arith
 
 other-own : (a : Action) (b : Board) → Other (ownTests a b)
-other-own (Step keys random) b = other-unless (leb (b .machine .pc) 4094) (λ e. omega arith) (other-op (opAt b) (b .machine))
+other-own (Step keys random) b = other-unless (leb (b .machine .pc) (b .machine .end - 2)) (λ e. omega arith) (other-op (opAt b) (b .machine))
 other-own Tick b = λ e. omega arith
 
 pub run-true : RunTrue
@@ -105,7 +105,7 @@ module _ (w : World) (ready : Ready w) (lit : TrueLit w) where
   back-other =
       rw (never-late w lit .back, ready-fits w ready, ready-soundly w ready)
       (other-unless (not (eqb (w .trail .kept) 0)) (λ e. omega arith)
-      (other-unless (not (damaged (lastRecord w) (w .machine .depth))) (λ e. omega arith) (λ e. omega arith)))
+      (other-unless (not (damaged (w .machine .end) (lastRecord w) (w .machine .depth))) (λ e. omega arith) (λ e. omega arith)))
 
   forward-other : Other (forwardRefusal w)
   forward-other =

@@ -150,22 +150,22 @@ module _ {m n : Machine} (k : Reached m n) where
   g = k .good
 
   keep-v : (v : List ℕ) → Bytes 16 v → Reached m (withV v n)
-  keep-v v h = record { good = record { v = h; i = g .i; pc = g .pc; calls = g .calls; timers = g .timers; wait = g .wait; lit = g .lit }; near = k .near }
+  keep-v v h = record { good = record { v = h; i = g .i; pc = g .pc; calls = g .calls; timers = g .timers; wait = g .wait; lit = g .lit; end = g .end }; near = k .near }
 
   keep-i : (i : ℕ) → i < 65536 → Reached m (withI i n)
-  keep-i i h = record { good = record { v = g .v; i = h; pc = g .pc; calls = g .calls; timers = g .timers; wait = g .wait; lit = g .lit }; near = k .near }
+  keep-i i h = record { good = record { v = g .v; i = h; pc = g .pc; calls = g .calls; timers = g .timers; wait = g .wait; lit = g .lit; end = g .end }; near = k .near }
 
   keep-pc : (pc : ℕ) → pc < 65536 → Reached m (withPc pc n)
-  keep-pc pc h = record { good = record { v = g .v; i = g .i; pc = h; calls = g .calls; timers = g .timers; wait = g .wait; lit = g .lit }; near = k .near }
+  keep-pc pc h = record { good = record { v = g .v; i = g .i; pc = h; calls = g .calls; timers = g .timers; wait = g .wait; lit = g .lit; end = g .end }; near = k .near }
 
   keep-calls : (s : List ℕ) (d : ℕ) → GoodCalls s d → Near (m .stack) (m .depth) s d → Reached m (withStack s d n)
-  keep-calls s d h near = record { good = record { v = g .v; i = g .i; pc = g .pc; calls = h; timers = g .timers; wait = g .wait; lit = g .lit }; near = near }
+  keep-calls s d h near = record { good = record { v = g .v; i = g .i; pc = g .pc; calls = h; timers = g .timers; wait = g .wait; lit = g .lit; end = g .end }; near = near }
 
   keep-timers : (t : Timers) → GoodTimers t → Reached m (withTimers t n)
-  keep-timers t h = record { good = record { v = g .v; i = g .i; pc = g .pc; calls = g .calls; timers = h; wait = g .wait; lit = g .lit }; near = k .near }
+  keep-timers t h = record { good = record { v = g .v; i = g .i; pc = g .pc; calls = g .calls; timers = h; wait = g .wait; lit = g .lit; end = g .end }; near = k .near }
 
   keep-wait : (w : Wait) → heldSound w ≡ true → Reached m (withWait w n)
-  keep-wait w h = record { good = record { v = g .v; i = g .i; pc = g .pc; calls = g .calls; timers = g .timers; wait = h; lit = g .lit }; near = k .near }
+  keep-wait w h = record { good = record { v = g .v; i = g .i; pc = g .pc; calls = g .calls; timers = g .timers; wait = h; lit = g .lit; end = g .end }; near = k .near }
 
   keep-set : (i b : ℕ) → b < 256 → Reached m (withV (set (n .v) i b) n)
   keep-set i b h = keep-v _ (record { size = length-set (n .v) i b ∙ g .v .size; below = below-set (g .v .below) i b h })
@@ -285,14 +285,15 @@ module _ (b : Board) (g : GoodBoard b) (m : Machine) (k : Reached (b .machine) m
       }
 
   -- bytes of memory changed
-  storing : (new : List ℕ) (s n : ℕ) → Bytes n new → 1 ≤ n → n ≤ 16 → s + n ≤ 4096
+  storing : (new : List ℕ) (s n : ℕ) → Bytes n new → 1 ≤ n → n ≤ 16 → s + n ≤ b .machine .end
       → Follows (InMemory s n) b (record { machine = m; memory = over (b .memory) s new n; picture = b .picture })
   storing new s n h low high fit =
+      let most : s + n ≤ 4096 = omega (arith, g .machine .end .most) in
       let room : s + n ≤ length (b .memory) = omega (arith, g .memory .size) in
       record {
         good = record {
           machine = k .good;
-          memory = bytes-over (g .memory) h s fit;
+          memory = bytes-over (g .memory) h s most;
           picture = g .picture;
         };
         undoable = record {
@@ -311,8 +312,8 @@ module _ (b : Board) (g : GoodBoard b) (m : Machine) (k : Reached (b .machine) m
         undoable = record { fits = (low, omega arith, fit); only = (refl, o); near = k .near };
       }
 
-pub past-fits : (m : Machine) (n : ℕ) → 0 < n → past m n ≡ 0 → m .i + n ≤ 4096
-past-fits m n h e = leb-true (m .i + n) 4096 ((passed (leb (m .i + n) 4096) 5 0 (rw (ne-eqb n 0 (λ z. omega arith)) at e)) .0)
+pub past-fits : (m : Machine) (n : ℕ) → 0 < n → past m n ≡ 0 → m .i + n ≤ m .end
+past-fits m n h e = leb-true (m .i + n) (m .end) ((passed (leb (m .i + n) (m .end)) 5 0 (rw (ne-eqb n 0 (λ z. omega arith)) at e)) .0)
 
 -- the rows that a pattern changes
 module _ (b : Board) (g : GoodBoard b) (m : Machine) (k : Reached (b .machine) m)
@@ -337,7 +338,7 @@ module _ (b : Board) (g : GoodBoard b) (m : Machine) (k : Reached (b .machine) m
 pub pattern-length : (b : Board) (n : ℕ) → GoodBoard b → past (b .machine) n ≡ 0 → length (part (b .memory) (b .machine .i) n) ≡ n
 pattern-length b zero g e = refl
 pattern-length b (suc n) g e =
-    part-length (b .memory) (b .machine .i) (suc n) (omega (arith, past-fits (b .machine) (suc n) (omega arith) e, g .memory .size))
+    part-length (b .memory) (b .machine .i) (suc n) (omega (arith, past-fits (b .machine) (suc n) (omega arith) e, g .memory .size, g .machine .end .most))
 
 -- the number of lit spots plays no part in what can be undone
 counted-only : (c : Change) (b d : Board) → Only c b d → Only c b (counted b d)
@@ -407,15 +408,15 @@ module _ (b : Board) (g : GoodBoard b) where
   step-follows (Store x) keys random f near e =
       let fit = past-fits m (upTo x) (omega arith) e in
       let size = length-take-le (upTo x) (m .v) (omega (arith, g .machine .v .size)) in
-      storing b g _ (idle (keep-onward (keep-i same (m .i + upTo x) (omega arith)) near)) (take (upTo x) (m .v)) (m .i) (upTo x)
+      storing b g _ (idle (keep-onward (keep-i same (m .i + upTo x) (omega (arith, g .machine .end .most))) near)) (take (upTo x) (m .v)) (m .i) (upTo x)
       (record { size = size; below = below-take (g .machine .v .below) (upTo x) }) (omega arith) (omega arith) fit
   step-follows (Fetch x) keys random f near e =
       let fit = past-fits m (upTo x) (omega arith) e in
       let v = part (b .memory) (m .i) (upTo x) ++ drop (upTo x) (m .v) in
-      let size : length v ≡ 16 = simp (length-append, length-take, length-drop) (omega (arith, g .machine .v .size, g .memory .size, fit)) in
+      let size : length v ≡ 16 = simp (length-append, length-take, length-drop) (omega (arith, g .machine .v .size, g .memory .size, fit, g .machine .end .most)) in
       let below : Below 256 v =
       below-append (below-take (below-drop (g .memory .below) (m .i)) (upTo x)) (below-drop (g .machine .v .below) (upTo x)) in
-      still b g _ (idle (keep-onward (keep-i (keep-v same v (record { size = size; below = below })) (m .i + upTo x) (omega arith)) near))
+      still b g _ (idle (keep-onward (keep-i (keep-v same v (record { size = size; below = below })) (m .i + upTo x) (omega (arith, g .machine .end .most))) near))
   step-follows Unlisted keys random f near e = absurd (not-zero 1 e)
   step-follows MachineCode keys random f near e = absurd (not-zero 2 e)
 
@@ -430,9 +431,10 @@ module _ (b : Board) (g : GoodBoard b) where
   pub action-follows : (a : Action) → ownRefusal a b ≡ 0 → Follows (changeBy a b) b (boardBy a b)
   action-follows (Step keys random) e =
       let (tests, late) = both-zero (stepTests b) (stepLate b) e in
-      let (near, ok) = passed (leb (m .pc) 4094) 0 _ tests in
+      let (before, ok) = passed (leb (m .pc) (m .end - 2)) 0 _ tests in
+      let near : m .pc ≤ 4094 = omega (arith, leb-true (m .pc) (m .end - 2) before, g .machine .end .most) in
       counted-follows b (after (opAt b) keys random m (b .memory) (b .picture))
-      (step-follows (opAt b) keys random (decode-fits _ _ _ (byte (m .pc)) (byte (m .pc + 1))) (leb-true (m .pc) 4094 near) ok)
+      (step-follows (opAt b) keys random (decode-fits _ _ _ (byte (m .pc)) (byte (m .pc + 1))) near ok)
       (step-passes b keys random late)
   action-follows Tick e = tick-follows
 

@@ -6,7 +6,7 @@ use Prim.Native.Nat.{ℕ, _-_, _≤_, _<_}
 use lib.ListN.{drop, length, replicate}
 use Rattle.rules.specs.declared.Machine.{Machine}
 use Rattle.rules.specs.declared.Timers.{Timers}
-use Rattle.rules.specs.State.{memorySize, pictureSize, spotCount, stackSize, heldSound}
+use Rattle.rules.specs.State.{memorySize, pictureSize, spotCount, stackSize, startAddress, heldSound}
 use Rattle.rules.specs.Step.{Board}
 use Rattle.rules.specs.Typed.{Below}
 
@@ -24,6 +24,10 @@ pub record GoodTimers (t : Timers) : Type 0 where
   pub delay : t .delay < 256
   pub tone : t .tone < 256
 
+pub record GoodEnd (end : ℕ) : Type 0 where
+  pub least : startAddress ≤ end
+  pub most : end ≤ memorySize
+
 pub record GoodMachine (m : Machine) : Type 0 where
   pub v : Bytes 16 (m .v)
   pub i : m .i < 65536
@@ -32,6 +36,7 @@ pub record GoodMachine (m : Machine) : Type 0 where
   pub timers : GoodTimers (m .timers)
   pub wait : heldSound (m .wait) ≡ true
   pub lit : m .lit ≤ spotCount
+  pub end : GoodEnd (m .end)
 
 pub record GoodBoard (b : Board) : Type 0 where
   pub machine : GoodMachine (b .machine)

@@ -5,6 +5,7 @@ use mathlib.Core.Bool.{true}
 use mathlib.Core.List.{List}
 use Prim.Native.Nat.{ℕ}
 use Rattle.rules.specs.declared.Action.{Action}
+use Rattle.rules.specs.State.{chosen}
 use Rattle.rules.specs.Record.{old, kindSound, actionAt}
 use Rattle.rules.specs.Step.{Board}
 use Rattle.rules.specs.Call.{boardBy, changeBy, ownRefusal, recordBy}
@@ -40,6 +41,9 @@ module _ {r : List ℕ} {b b′ : Board} (l : Link r b b′) where
   restores =
       subst₂ (λ (q : List ℕ) (c : Board). Restores q c b) (sym (l .is)) (l .leads)
       (undo _ a b _ (l .good) (follows .good) (follows .undoable) (action-chosen a b) (action-recounts b (l .good) a (l .accepted)))
+
+  pub same-chosen : chosen (b .machine) ≡ chosen (b′ .machine)
+  same-chosen = sym (action-chosen a b) ∙ ap (λ (c : Board). chosen (c .machine)) (l .leads)
 
   pub kind-known : kindSound r ≡ true
   kind-known = ap kindSound (l .is) ∙ reads .kind

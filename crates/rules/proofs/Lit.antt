@@ -29,8 +29,8 @@ lit-none = refl
 
 pub load-lit : LoadLit
 unfolding load
-load-lit edition program memory picture history =
-    by-test (λ (a : Answer). a .refusal ≡ 0 → TrueLit (a .world)) (loadRefusal program memory picture history) 0 (λ z e. rw lit-none)
+load-lit edition end program memory picture history =
+    by-test (λ (a : Answer). a .refusal ≡ 0 → TrueLit (a .world)) (loadRefusal end program memory picture history) 0 (λ z e. rw lit-none)
     (λ ne e. absurd (ne e))
 
 -- ---- as far as it was

@@ -1,6 +1,6 @@
 -- The proof that an accepted load starts as Past wants it.
 use mathlib.Core.Path.{_≡_, refl}
-use mathlib.Core.Bool.{Bool, true, _&&_, and-eq-true-iff}
+use mathlib.Core.Bool.{Bool, true, false, _&&_, and-eq-true-iff}
 use mathlib.Core.List.{List, [], _∷_}
 use Prim.Native.Nat.{ℕ, _-_, _≤_}
 use native.Mathlib.Omega.{arith}
@@ -8,13 +8,15 @@ use lib.ListN.{length, length-append, length-replicate}
 use lib.Dec.{ltb, leb}
 use borrow.Author.Tests.{ltb-true, leb-true, eq-eqb, le-leb}
 use Rattle.rules.specs.declared.Edition.{Edition}
-use Rattle.rules.specs.State.{fresh}
+use Rattle.rules.specs.Number.{pick}
+use Rattle.rules.specs.State.{fresh, endSound}
 use Rattle.rules.specs.World.{Answer, boardOf, sizesFit}
-use Rattle.rules.specs.Load.{digits, freshWorld, loaded, loadedMemory, load, loadRefusal}
+use Rattle.rules.specs.Load.{digits, endOf, freshWorld, loaded, loadedMemory, load, loadRefusal}
 use Rattle.rules.specs.Typed.{Below, none, more, TypedMachine, TypedBoard}
 use Rattle.rules.specs.Past.{Start, LoadStarts}
 use Rattle.rules.proofs.Choices.{by-test, and-both, passed}
 use Rattle.rules.proofs.Parts.{zeroes, below-append, below-zeros}
+use Rattle.rules.proofs.Sound.{end-good}
 use Rattle.rules.proofs.Ready.{fits-passed}
 use Rattle.rules.proofs.Lit.{lit-none}
 
@@ -31,8 +33,16 @@ digits-below : Below 256 digits
 unfolding allBelow
 digits-below = below-all 256 digits refl
 
-pub fresh-typed : (edition : Edition) → TypedMachine (fresh edition)
-fresh-typed edition =
+-- the end that a load hands back is in use
+pub end-in-use : (end : ℕ) → endSound (endOf end) ≡ true
+end-in-use end = go (endSound end) refl
+  where
+    go : (t : Bool) → endSound end ≡ t → endSound (pick t end 4096) ≡ true
+    go true e = e
+    go false e = refl
+
+pub fresh-typed : (edition : Edition) (end : ℕ) → TypedMachine (fresh edition (endOf end))
+fresh-typed edition end =
     record {
       vs = refl;
       v = below-zeros 16 (omega arith);
@@ -43,6 +53,7 @@ fresh-typed edition =
       delay = omega arith;
       tone = omega arith;
       lit = omega arith;
+      end = omega (arith, end-good (endOf end) (end-in-use end));
     }
 
 -- digits, zeros, the program and zeros fill the memory
@@ -55,15 +66,15 @@ unfolding loadedMemory
 loaded-below program h =
     below-append (below-append (below-append digits-below (below-zeros 432 (omega arith))) h) (below-zeros (3584 - length program) (omega arith))
 
-loaded-starts : (edition : Edition) (program history : List ℕ) → Below 256 program → length program ≤ 3584 → 292 ≤ length history
-    → length history ≤ 65536 → TypedBoard (boardOf (loaded edition program history)) × Start (loaded edition program history)
-loaded-starts edition program history h fits least most =
+loaded-starts : (edition : Edition) (end : ℕ) (program history : List ℕ) → Below 256 program → length program ≤ 3584 → 292 ≤ length history
+    → length history ≤ 65536 → let w = loaded edition end program history in TypedBoard (boardOf w) × Start w
+loaded-starts edition end program history h fits least most =
     let long : length (zeroes (length history)) ≡ length history = length-replicate {A = ℕ} (length history) 0 in (
-      record { machine = fresh-typed edition; memory = loaded-below program h; picture = below-zeros 256 (omega arith) },
+      record { machine = fresh-typed edition end; memory = loaded-below program h; picture = below-zeros 256 (omega arith) },
       record {
         fits = and-both (and-both (eq-eqb _ _ (loaded-length program fits)) (eq-eqb _ _ (length-replicate {A = ℕ} 256 0)))
             (rw long (and-both (le-leb _ _ least) (le-leb _ _ most)));
-        sound = refl;
+        sound = and-both refl (end-in-use end);
         next = rw long (omega arith);
         kept = refl;
         ahead = refl;
@@ -71,16 +82,25 @@ loaded-starts edition program history h fits least most =
       },
     )
 
+-- what an accepted load passed
+pub load-passed : (end : ℕ) (program memory picture history : List ℕ) → loadRefusal end program memory picture history ≡ 0
+    → (sizesFit memory picture history ≡ true) × (endSound end ≡ true) × (length program ≤ end - 512)
+unfolding loadRefusal
+load-passed end program memory picture history e =
+    let first = passed (sizesFit memory picture history) 8 _ e in
+    let second = passed (endSound end) 9 _ (first .1) in
+    let third = passed (leb 1 (length program) && leb (length program) (end - 512)) 7 0 (second .1) in
+    let both = and-eq-true-iff (leb 1 (length program)) (leb (length program) (end - 512)) .0 (third .0) in
+    (first .0, second .0, leb-true (length program) (end - 512) (both .1))
+
 pub load-starts : LoadStarts
-unfolding load loadRefusal
-load-starts edition program memory picture history h =
-    by-test (λ (a : Answer). a .refusal ≡ 0 → TypedBoard (boardOf (a .world)) × Start (a .world)) (loadRefusal program memory picture history) 0 (λ e _. start e)
+unfolding load
+load-starts edition end program memory picture history h =
+    by-test (λ (a : Answer). a .refusal ≡ 0 → TypedBoard (boardOf (a .world)) × Start (a .world)) (loadRefusal end program memory picture history) 0 (λ e _. start e)
     (λ ne e. absurd (ne e))
   where
-    start : loadRefusal program memory picture history ≡ 0 → TypedBoard (boardOf (loaded edition program history)) × Start (loaded edition program history)
+    start : loadRefusal end program memory picture history ≡ 0 → let w = loaded edition end program history in TypedBoard (boardOf w) × Start w
     start e =
-        let first = passed (sizesFit memory picture history) 8 _ e in
-        let second = passed (leb 1 (length program) && leb (length program) 3584) 7 0 (first .1) in
-        let room = fits-passed (freshWorld edition memory picture history) (first .0) in
-        let short = leb-true _ _ (and-eq-true-iff (leb 1 (length program)) (leb (length program) 3584) .0 (second .0) .1) in
-        loaded-starts edition program history h short (room .least) (room .most)
+        let (sizes, in-use, short) = load-passed end program memory picture history e in
+        let room = fits-passed (freshWorld edition end memory picture history) sizes in
+        loaded-starts edition end program history h (omega (arith, end-good end in-use)) (room .least) (room .most)

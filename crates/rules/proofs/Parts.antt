@@ -13,6 +13,14 @@ use Rattle.rules.proofs.Good.{Bytes}
 abbrev pub zeroes : ℕ → List ℕ
 zeroes n = replicate n 0
 
+-- what is read or replaced in the first of two lists
+module _ (a b : List ℕ) (s n : ℕ) (fits : s + n ≤ length a) where
+  pub part-front : part (a ++ b) s n ≡ part a s n
+  part-front = rw (drop-append-le s a b (omega arith)) (take-append-le n (drop s a) b (simp length-drop (omega arith)))
+
+  pub over-front : (new : List ℕ) → over (a ++ b) s new n ≡ over a s new n ++ b
+  over-front new = rw (take-append-le s a b (omega arith), drop-append-le (s + n) a b fits) (sym (append-assoc (take s a ++ new) (drop (s + n) a) b))
+
 module _ (a new : List ℕ) (s n : ℕ) (fits : s + n ≤ length a) (sized : length new ≡ n) where
   pub over-length : length (over a s new n) ≡ length a
   over-length = simp (length-append, length-take, length-drop) (omega arith)
@@ -29,9 +37,8 @@ module _ (a new : List ℕ) (s n : ℕ) (fits : s + n ≤ length a) (sized : len
 
   pub part-over-before : (p k : ℕ) → p + k ≤ s → part (over a s new n) p k ≡ part a p k
   part-over-before p k h =
-      let front : (l : List ℕ) → part (take s a ++ l) p k ≡ take k (drop p (take s a)) =
-      λ l. rw (drop-append-le p (take s a) l (simp length-take (omega arith)))
-      (take-append-le k (drop p (take s a)) l (simp (length-drop, length-take) (omega arith))) in
+      let front : (l : List ℕ) → part (take s a ++ l) p k ≡ part (take s a) p k =
+      λ l. part-front (take s a) l p k (simp length-take (omega arith)) in
       rw append-assoc (front (new ++ drop (s + n) a) ∙ sym (front (drop s a)) ∙ ap (λ (l : List ℕ). part l p k) (take-append-drop s a))
 
   -- and from any element behind them

@@ -1,5 +1,5 @@
 -- A world that passes the tests 9 and 10: the tests give it, and every accepted call keeps it, a step back onto any bytes too.
-use mathlib.Core.Path.{_≡_, refl, sym, _∙_}
+use mathlib.Core.Path.{_≡_, refl, sym, ap, _∙_}
 use mathlib.Core.Bool.{true, not, _&&_, and-eq-true-iff}
 use Prim.Native.Nat.{ℕ, zero, suc, _+_, _-_, _*_, _≤_, _<_}
 use native.Mathlib.Omega.{arith}
@@ -9,7 +9,7 @@ use borrow.Author.Tests.{ltb-true, leb-true, eqb-true, eqb-false, not-true, le-l
 use Rattle.rules.specs.declared.Action.{Action}
 use Rattle.rules.specs.declared.Action.the-variants.{Step, Tick}
 use Rattle.rules.specs.Number.{unless}
-use Rattle.rules.specs.State.{sound}
+use Rattle.rules.specs.State.{Chosen, endSound, sound}
 use Rattle.rules.specs.Record.{damaged, kindSound, actionAt}
 use Rattle.rules.specs.Step.{changeOf}
 use Rattle.rules.specs.World.{World, Answer, withAhead, boardOf, places, historyFits, buffersFit, trailFits, soundly}
@@ -21,14 +21,16 @@ use Rattle.rules.specs.Typed.{Below, TypedBoard}
 use Rattle.rules.proofs.Choices.{by-test, and-both, passed}
 use Rattle.rules.proofs.Good.{Bytes, GoodBoard}
 use Rattle.rules.proofs.Parts.{over-length, part-length, below-take, below-drop}
-use Rattle.rules.proofs.Sound.{good-sound, sound-good}
+use Rattle.rules.proofs.Sound.{good-sound, sound-parts, sound-good}
 use Rattle.rules.proofs.Undo.{written-length, Usable, usable}
 use Rattle.rules.proofs.Restored.{machine-good, memory-good, picture-good}
 use Rattle.rules.proofs.Counted.{counted-good}
 use Rattle.rules.proofs.Follow.{Follows, action-follows}
+use Rattle.rules.proofs.Still.{action-chosen}
 
 pub record Ready (w : World) : Type 0 where
   pub good : GoodBoard (boardOf w)
+  pub end : endSound (w .machine .end) ≡ true
   pub least : 292 ≤ length (w .history)
   pub most : length (w .history) ≤ 65536
   pub next : w .trail .next < places (w .history)
@@ -66,18 +68,23 @@ start-ready w t fits s next limit =
         memory = record { size = p .memory; below = t .memory };
         picture = record { size = p .picture; below = t .picture };
       };
+      end = sound-parts (w .machine) s .end;
       least = p .least;
       most = p .most;
       next = next;
       limit = limit;
     }
 
-pub tests-ready : (w : World) → TypedBoard (boardOf w) → buffersFit w ≡ true → soundly w ≡ true → Ready w
-tests-ready w t fits s =
+pub soundly-passed : (w : World) → soundly w ≡ true
+    → (sound (w .machine) ≡ true) × (w .trail .next < places (w .history)) × (w .trail .kept + w .trail .ahead ≤ places (w .history))
+soundly-passed w s =
     let all = and-eq-true-iff (sound (w .machine)) (trailFits (w .trail) (w .history)) .0 s in
     let most = leb (w .trail .kept + w .trail .ahead) (places (w .history)) in
     let both = and-eq-true-iff (ltb (w .trail .next) (places (w .history))) most .0 (all .1) in
-    start-ready w t fits (all .0) (ltb-true _ _ (both .0)) (leb-true _ _ (both .1))
+    (all .0, ltb-true _ _ (both .0), leb-true _ _ (both .1))
+
+pub tests-ready : (w : World) → TypedBoard (boardOf w) → buffersFit w ≡ true → soundly w ≡ true → Ready w
+tests-ready w t fits s = let (state, next, limit) = soundly-passed w s in start-ready w t fits state next limit
 
 -- an accepted call passed them, and what came later
 pub record Accepted (w : World) (later : ℕ) : Type 0 where
@@ -102,7 +109,7 @@ module _ (w : World) where
   -- what a step back and a step forward test after them
   abbrev backTests : ℕ
   backTests =
-      unless (not (eqb (w .trail .kept) 0)) 7 (unless (not (damaged (lastRecord w) (w .machine .depth))) 11 (backLate w))
+      unless (not (eqb (w .trail .kept) 0)) 7 (unless (not (damaged (w .machine .end) (lastRecord w) (w .machine .depth))) 11 (backLate w))
 
   abbrev forwardTests : ℕ
   forwardTests =
@@ -117,10 +124,10 @@ module _ (w : World) where
   forward-accepted = accepted w _
 
   pub back-passed : backRefusal w ≡ 0
-      → (not (eqb (w .trail .kept) 0) ≡ true) × (not (damaged (lastRecord w) (w .machine .depth)) ≡ true) × (backLate w ≡ 0)
+      → (not (eqb (w .trail .kept) 0) ≡ true) × (not (damaged (w .machine .end) (lastRecord w) (w .machine .depth)) ≡ true) × (backLate w ≡ 0)
   back-passed e =
       let third = passed (not (eqb (w .trail .kept) 0)) 6 _ (back-accepted e .rest) in
-      let fourth = passed (not (damaged (lastRecord w) (w .machine .depth))) 10 _ (third .1) in
+      let fourth = passed (not (damaged (w .machine .end) (lastRecord w) (w .machine .depth))) 10 _ (third .1) in
       (third .0, fourth .0, fourth .1)
 
   -- an accepted forward makes an action that is accepted
@@ -136,7 +143,7 @@ ready-fits w h =
 
 pub ready-soundly : (w : World) → Ready w → soundly w ≡ true
 ready-soundly w h =
-    and-both (good-sound (w .machine) (h .good .machine))
+    and-both (good-sound (w .machine) (h .good .machine) (h .end))
     (and-both (lt-ltb (w .trail .next) (places (w .history)) (h .next)) (le-leb (w .trail .kept + w .trail .ahead) (places (w .history)) (h .limit)))
 
 pub ready-typed : (w : World) → Ready w → TypedBoard (boardOf w)
@@ -153,6 +160,7 @@ ready-typed w h =
         delay = m .timers .delay;
         tone = m .timers .tone;
         lit = omega (arith, m .lit);
+        end = omega (arith, m .end .most);
       };
       memory = h .good .memory .below;
       picture = h .good .picture .below;
@@ -178,6 +186,7 @@ module _ (w : World) (h : Ready w) (a : Action) (accepted : ownRefusal a (boardO
   acted-ready n few =
       record {
         good = acted-follows .good;
+        end = ap (λ (c : Chosen). endSound (c .end)) (action-chosen a (boardOf w)) ∙ h .end;
         least = rw as-long (h .least);
         most = rw as-long (h .most);
         next = rw as-long (next-below (places (w .history)) (w .trail .next) (h .next));
@@ -217,31 +226,38 @@ ticks-ready (suc n) w h = ticks-ready n (ticked w) (ticked-ready w h)
 pub before-below : (r n : ℕ) → n < r → placeBefore r n < r
 before-below r n h = by-test (λ (q : ℕ). q < r) n 0 (λ e. omega arith) (λ e. omega arith)
 
+-- the record that an accepted back reads
+pub last-sized : (w : World) → w .trail .next < places (w .history) → length (lastRecord w) ≡ 292
+last-sized w next =
+    let before = before-below (places (w .history)) (w .trail .next) next in
+    part-length (w .history) (292 * placeBefore (places (w .history)) (w .trail .next)) 292 (omega arith)
+
+pub last-usable : (w : World) → backRefusal w ≡ 0 → Usable (w .machine .end) (lastRecord w)
+last-usable w e = usable (w .machine .end) (lastRecord w) (w .machine .depth) (not-true _ (back-passed w e .1))
+
 module _ (w : World) (h : Ready w) where
-  -- the record that an accepted back reads
   pub last-place : Below 256 (w .history) → Bytes 292 (lastRecord w)
   last-place bytes =
-      let before = before-below (places (w .history)) (w .trail .next) (h .next) in
-      let at = 292 * placeBefore (places (w .history)) (w .trail .next) in
-      record { size = part-length (w .history) at 292 (omega arith); below = below-take (below-drop bytes at) 292 }
-
-  pub last-usable : backRefusal w ≡ 0 → Usable (lastRecord w)
-  last-usable e = usable (lastRecord w) (w .machine .depth) (not-true _ (back-passed w e .1))
+      record {
+        size = last-sized w (h .next);
+        below = below-take (below-drop bytes (292 * placeBefore (places (w .history)) (w .trail .next))) 292;
+      }
 
   pub undone-ready : Below 256 (w .history) → backRefusal w ≡ 0 → Ready (undone (lastRecord w) w)
   unfolding undone
   undone-ready bytes e =
       let (kept, intact, late) = back-passed w e in
       let place = last-place bytes in
-      let fine = last-usable e in
+      let fine = last-usable w e in
       record {
         good = counted-good (boardOf w) _
             (record {
               machine = machine-good (lastRecord w) place fine (w .machine) (h .good .machine);
-              memory = memory-good (lastRecord w) place fine (w .memory) (h .good .memory);
+              memory = memory-good (lastRecord w) place fine (w .memory) (h .good .machine .end .most) (h .good .memory);
               picture = picture-good (lastRecord w) place fine (w .picture) (h .good .picture);
             })
             late;
+        end = h .end;
         least = h .least;
         most = h .most;
         next = before-below (places (w .history)) (w .trail .next) (h .next);

@@ -13,7 +13,7 @@ use Rattle.rules.proofs.Good.{Bytes, GoodCalls, GoodMachine}
 use Rattle.rules.proofs.Parts.{zeroes, part-length, below-get, below-set, below-append, below-take, below-drop, below-zeros, bytes-over}
 use Rattle.rules.proofs.Undo.{Fits, Usable}
 
-module _ (r : List ℕ) (place : Bytes 292 r) (u : Usable r) where
+module _ (r : List ℕ) (place : Bytes 292 r) {end : ℕ} (u : Usable end r) where
   byte : (k : ℕ) → byteAt r k < 256
   byte k = below-get (omega arith) (place .below) k
 
@@ -45,19 +45,20 @@ module _ (r : List ℕ) (place : Bytes 292 r) (u : Usable r) where
         timers = record { delay = byte 25; tone = byte 26 };
         wait = u .held;
         lit = g .lit;
+        end = g .end;
       }
 
-  memory-from : (c : Change) (l : List ℕ) → Fits c → Bytes 4096 l → Bytes 4096 (memoryAt c r l)
-  memory-from Nothing l f g = g
-  memory-from (InMemory s n) l f g = bytes-over g (piece 32 n (omega (arith, f))) s (f .2)
-  memory-from (InPicture s n) l f g = g
+  memory-from : (c : Change) (l : List ℕ) → Fits end c → end ≤ 4096 → Bytes 4096 l → Bytes 4096 (memoryAt c r l)
+  memory-from Nothing l f most g = g
+  memory-from (InMemory s n) l f most g = bytes-over g (piece 32 n (omega (arith, f))) s (omega (arith, f))
+  memory-from (InPicture s n) l f most g = g
 
-  picture-from : (c : Change) (l : List ℕ) → Fits c → Bytes 256 l → Bytes 256 (pictureAt c r l)
+  picture-from : (c : Change) (l : List ℕ) → Fits end c → Bytes 256 l → Bytes 256 (pictureAt c r l)
   picture-from Nothing l f g = g
   picture-from (InMemory s n) l f g = g
   picture-from (InPicture s n) l f g = bytes-over g (piece 32 n (omega (arith, f))) s (f .2)
 
-  pub memory-good : (l : List ℕ) → Bytes 4096 l → Bytes 4096 (memoryAt (changeAt r) r l)
+  pub memory-good : (l : List ℕ) → end ≤ 4096 → Bytes 4096 l → Bytes 4096 (memoryAt (changeAt r) r l)
   memory-good l = memory-from (changeAt r) l (u .fits)
 
   pub picture-good : (l : List ℕ) → Bytes 256 l → Bytes 256 (pictureAt (changeAt r) r l)

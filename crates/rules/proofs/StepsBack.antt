@@ -13,6 +13,7 @@ use Rattle.rules.specs.declared.Action.{Action}
 use Rattle.rules.specs.declared.Action.the-variants.{Step, Tick}
 use Rattle.rules.specs.declared.Trail.{Trail}
 use Rattle.rules.specs.Number.{pick, unless}
+use Rattle.rules.specs.State.{Chosen, chosen, endSound}
 use Rattle.rules.specs.Memory.{part}
 use Rattle.rules.specs.Record.{actionAt}
 use Rattle.rules.specs.Step.{Board}
@@ -30,7 +31,7 @@ use Rattle.rules.proofs.Each.{plays-last}
 use Rattle.rules.proofs.Good.{GoodBoard}
 use Rattle.rules.proofs.Parts.{part-over-same, put-back}
 use Rattle.rules.proofs.Undo.{Restores}
-use Rattle.rules.proofs.Link.{Link, leads-good, restores, kind-known, again}
+use Rattle.rules.proofs.Link.{Link, leads-good, restores, same-chosen, kind-known, again}
 use Rattle.rules.proofs.Given.{answer-number}
 use Rattle.rules.proofs.Chain.{Behind, Ahead, done, push-behind, push-ahead, pop, chain-less, round, chain-over}
 use Rattle.rules.proofs.Ready.{Ready, start-ready, ready-fits, ready-soundly, next-below, before-below, record-sized, as-long, acted-ready, step-own}
@@ -125,9 +126,17 @@ module _ (r : ℕ) (w : World) (p : Past) (hold : Holds r w p) where
   abbrev standing : Board → Trail → World
   standing c t = world (c .machine) t (c .memory) (c .picture) h
 
-  standing-ready : (c : Board) (t : Trail) → GoodBoard c → t .next < r → t .kept + t .ahead ≤ r → Ready (standing c t)
-  standing-ready c t good below limit =
-      record { good = good; least = ready .least; most = ready .most; next = rw (hold .room) below; limit = rw (hold .room) limit }
+  standing-ready : (c : Board) (t : Trail) → GoodBoard c → chosen (c .machine) ≡ chosen (w .machine) → t .next < r → t .kept + t .ahead ≤ r
+      → Ready (standing c t)
+  standing-ready c t good same below limit =
+      record {
+        good = good;
+        end = ap (λ (c : Chosen). endSound (c .end)) same ∙ ready .end;
+        least = ready .least;
+        most = ready .most;
+        next = rw (hold .room) below;
+        limit = rw (hold .room) limit;
+      }
 
   -- ---- a step back
 
@@ -158,7 +167,7 @@ module _ (r : ℕ) (w : World) (p : Past) (hold : Holds r w p) where
         kept = ap (λ (k : ℕ). k - 1) (hold .kept);
         ahead = ap (λ (k : ℕ). k + 1) (hold .ahead);
         above = omega (arith, hold .above);
-        ready = standing-ready lower t (last .0 .good) (before-below r n next) (omega (arith, ready .limit, hold .room, some));
+        ready = standing-ready lower t (last .0 .good) (same-chosen (last .0)) (before-below r n next) (omega (arith, ready .limit, hold .room, some));
         room = hold .room;
         backward = last .1;
         forward = rw (add-one (w .trail .ahead)) (push-ahead h r n next (hold .finger) (last .0) (hold .forward));
@@ -214,7 +223,7 @@ module _ (r : ℕ) (w : World) (p : Past) (hold : Holds r w p) where
         kept = omega (arith, hold .kept, ready .limit, hold .room, some);
         ahead = ap (λ (k : ℕ). k - 1) (hold .ahead);
         above = rw length-drop (omega (arith, hold .above));
-        ready = standing-ready upper t (leads-good (last .0)) (next-below r n next) (omega (arith, ready .limit, hold .room, some));
+        ready = standing-ready upper t (leads-good (last .0)) (sym (same-chosen (last .0))) (next-below r n next) (omega (arith, ready .limit, hold .room, some));
         room = hold .room;
         backward = rw (add-one (w .trail .kept)) (push-behind h r n next (hold .finger) (last .0) (hold .backward));
         forward = last .1;

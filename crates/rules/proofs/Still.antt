@@ -1,7 +1,8 @@
 -- The rules of the instructions leave what a load chose, and the number of lit spots: so that changes only where the picture does.
 use mathlib.Core.Path.{_≡_, refl, sym, ap, _∙_}
 use mathlib.Core.List.{List}
-use Prim.Native.Nat.{ℕ}
+use Prim.Native.Nat.{ℕ, _%_}
+use lib.ListN.{set, length, length-set}
 use lib.Dec.{eqb}
 use Rattle.rules.specs.declared.Action.{Action}
 use Rattle.rules.specs.declared.Action.the-variants.{Step, Tick}
@@ -14,7 +15,7 @@ use Rattle.rules.specs.declared.Simple.{Simple}
 use Rattle.rules.specs.declared.Simple.the-variants.{Jump, JumpFrom, SkipEqual, SkipDiffers, SkipSame, SkipOther, SkipDown, SkipUp}
 use Rattle.rules.specs.declared.Simple.the-variants.{Put, Add, Chance, Copy, Or, And, Plus, Minus, Xor, Halve, MinusFrom, Double}
 use Rattle.rules.specs.declared.Simple.the-variants.{Index, AddIndex, Digit, FromDelay, ToDelay, ToTone}
-use Rattle.rules.specs.State.{Chosen, chosen}
+use Rattle.rules.specs.State.{Chosen, chosen, withReg}
 use Rattle.rules.specs.Registers.{simple, awaited, down}
 use Rattle.rules.specs.Step.{Board, litAfter, counted, after}
 use Rattle.rules.specs.Call.{opAt, boardBy}
@@ -27,44 +28,54 @@ use Rattle.rules.proofs.Follow.{picture-after}
 abbrev left : Machine → Chosen × ℕ
 left m = (chosen m, m .lit)
 
-module _ (keys random : ℕ) (m : Machine) where
-  simple-left : (s : Simple) → left (simple s keys random m) ≡ left m
-  simple-left (Jump a) = refl
-  simple-left (JumpFrom a) = refl
-  simple-left (SkipEqual x kk) = refl
-  simple-left (SkipDiffers x kk) = refl
-  simple-left (SkipSame x y) = refl
-  simple-left (SkipOther x y) = refl
-  simple-left (SkipDown x) = refl
-  simple-left (SkipUp x) = refl
-  simple-left (Put x kk) = refl
-  simple-left (Add x kk) = refl
-  simple-left (Chance x kk) = refl
-  simple-left (Copy x y) = refl
-  simple-left (Or x y) = refl
-  simple-left (And x y) = refl
-  simple-left (Plus x y) = refl
-  simple-left (Minus x y) = refl
-  simple-left (Xor x y) = refl
-  simple-left (Halve x y) = refl
-  simple-left (MinusFrom x y) = refl
-  simple-left (Double x y) = refl
-  simple-left (Index a) = refl
-  simple-left (AddIndex x) = refl
-  simple-left (Digit x) = refl
-  simple-left (FromDelay x) = refl
-  simple-left (ToDelay x) = refl
-  simple-left (ToTone x) = refl
+-- and how many variables there are
+abbrev pub Leaves : Machine → Machine → Type 0
+Leaves m n = (left n ≡ left m) × (length (n .v) ≡ length (m .v))
 
-  awaited-left : (x : ℕ) (w : Wait) → left (awaited x keys m w) ≡ left m
-  awaited-left x Idle = choice (λ (n : Machine). left n ≡ left m) (eqb keys 0) refl refl
-  awaited-left x (Held k) = choice (λ (n : Machine). left n ≡ left m) (down keys k) refl refl
+module _ (keys random : ℕ) (m : Machine) where
+  put : (x b : ℕ) → Leaves m (withReg x b m)
+  put x b = (refl, length-set (m .v) (x % 16) b)
+
+  flag : (x b f : ℕ) → Leaves m (withReg 0xF f (withReg x b m))
+  flag x b f = (refl, length-set (set (m .v) (x % 16) b) 15 f ∙ length-set (m .v) (x % 16) b)
+
+  pub simple-leaves : (s : Simple) → Leaves m (simple s keys random m)
+  simple-leaves (Jump a) = (refl, refl)
+  simple-leaves (JumpFrom a) = (refl, refl)
+  simple-leaves (SkipEqual x kk) = (refl, refl)
+  simple-leaves (SkipDiffers x kk) = (refl, refl)
+  simple-leaves (SkipSame x y) = (refl, refl)
+  simple-leaves (SkipOther x y) = (refl, refl)
+  simple-leaves (SkipDown x) = (refl, refl)
+  simple-leaves (SkipUp x) = (refl, refl)
+  simple-leaves (Put x kk) = put x _
+  simple-leaves (Add x kk) = put x _
+  simple-leaves (Chance x kk) = put x _
+  simple-leaves (Copy x y) = put x _
+  simple-leaves (Or x y) = flag x _ _
+  simple-leaves (And x y) = flag x _ _
+  simple-leaves (Plus x y) = flag x _ _
+  simple-leaves (Minus x y) = flag x _ _
+  simple-leaves (Xor x y) = flag x _ _
+  simple-leaves (Halve x y) = flag x _ _
+  simple-leaves (MinusFrom x y) = flag x _ _
+  simple-leaves (Double x y) = flag x _ _
+  simple-leaves (Index a) = (refl, refl)
+  simple-leaves (AddIndex x) = (refl, refl)
+  simple-leaves (Digit x) = (refl, refl)
+  simple-leaves (FromDelay x) = put x _
+  simple-leaves (ToDelay x) = (refl, refl)
+  simple-leaves (ToTone x) = (refl, refl)
+
+  pub awaited-leaves : (x : ℕ) (w : Wait) → Leaves m (awaited x keys m w)
+  awaited-leaves x Idle = choice (Leaves m) (eqb keys 0) (refl, refl) (refl, refl)
+  awaited-leaves x (Held k) = choice (Leaves m) (down keys k) (refl, refl) (put x k)
 
   module _ (memory picture : List ℕ) where
     after-left : (op : Op) → left ((after op keys random m memory picture) .machine) ≡ left m
     unfolding after
-    after-left (Plain s) = simple-left s
-    after-left (AwaitKey x) = awaited-left x (m .wait)
+    after-left (Plain s) = simple-leaves s .0
+    after-left (AwaitKey x) = awaited-leaves x (m .wait) .0
     after-left (Call a) = refl
     after-left Return = refl
     after-left Clear = refl
@@ -99,6 +110,7 @@ counted-same b c e f =
         wait = c .machine .wait;
         edition = c .machine .edition;
         lit = lit i;
+        end = c .machine .end;
       };
       memory = c .memory;
       picture = c .picture;

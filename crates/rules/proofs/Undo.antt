@@ -15,12 +15,12 @@ use Rattle.rules.specs.declared.Machine.{Machine}
 use Rattle.rules.specs.declared.Change.{Change}
 use Rattle.rules.specs.declared.Change.the-variants.{Nothing, InMemory, InPicture}
 use Rattle.rules.specs.Number.{pick}
-use Rattle.rules.specs.State.{chosen, heldSound}
+use Rattle.rules.specs.State.{Chosen, chosen, heldSound}
 use Rattle.rules.specs.Memory.{part}
 use Rattle.rules.specs.Record.{start, count, allowed, old, heldByte, lastReturn, recordOf, byteAt, wordAt, stackAt, waitAt}
 use Rattle.rules.specs.Record.{known, changeSound, depthSound, keySound, kindSound, damaged, memoryAt, pictureAt, changeAt, boardAt}
 use Rattle.rules.specs.Step.{Board, litAfter, litRefusal}
-use Rattle.rules.proofs.Good.{GoodCalls, GoodBoard}
+use Rattle.rules.proofs.Good.{GoodCalls, GoodEnd, GoodBoard}
 use Rattle.rules.proofs.Choices.{and-both}
 use Rattle.rules.proofs.Parts.{zeroes, put-back, part-length}
 use Rattle.rules.proofs.Back.{Reads, reads, record-length}
@@ -28,11 +28,11 @@ use Rattle.rules.proofs.Counted.{Recounts}
 
 -- ---- an action that can be undone
 
--- the change is one that a record may hold
-abbrev pub Fits : Change → Type 0
-Fits Nothing = Unit {0}
-Fits (InMemory s n) = (1 ≤ n) × (n ≤ 16) × (s + n ≤ 4096)
-Fits (InPicture s n) = (1 ≤ n) × (n ≤ 256) × (s + n ≤ 256)
+-- the change is one that a record may hold, where memory has that end
+abbrev pub Fits : ℕ → Change → Type 0
+Fits end Nothing = Unit {0}
+Fits end (InMemory s n) = (1 ≤ n) × (n ≤ 16) × (s + n ≤ end)
+Fits end (InPicture s n) = (1 ≤ n) × (n ≤ 256) × (s + n ≤ 256)
 
 -- the lists are equal before and behind the bytes from s on, n of them
 pub record Outside (s n : ℕ) (l l′ : List ℕ) : Type 0 where
@@ -53,34 +53,34 @@ pub record Near (stack : List ℕ) (depth : ℕ) (stack′ : List ℕ) (depth′
 
 -- from b to b′: the change fits and is all but the state
 pub record Undoable (c : Change) (b b′ : Board) : Type 0 where
-  pub fits : Fits c
+  pub fits : Fits (b .machine .end) c
   pub only : Only c b b′
   pub near : Near (b .machine .stack) (b .machine .depth) (b′ .machine .stack) (b′ .machine .depth)
 
 -- the record r, beside the board b′, gives back b
 pub record Restores (r : List ℕ) (b′ b : Board) : Type 0 where
   pub board : boardAt r b′ ≡ b
-  pub intact : damaged r (b′ .machine .depth) ≡ false
+  pub intact : damaged (b′ .machine .end) r (b′ .machine .depth) ≡ false
   pub late : litRefusal (b′ .machine .lit) (b′ .picture) (pictureAt (changeAt r) r (b′ .picture)) ≡ 0
 
 -- ---- a change that fits
 
-fits-start : (c : Change) → Fits c → (start c < 65536) × (count c ≤ 256)
-fits-start Nothing f = omega arith
-fits-start (InMemory s n) f = omega arith
-fits-start (InPicture s n) f = omega arith
+fits-start : {end : ℕ} (c : Change) → GoodEnd end → Fits end c → (start c < 65536) × (count c ≤ 256)
+fits-start Nothing g f = omega arith
+fits-start (InMemory s n) g f = omega arith
+fits-start (InPicture s n) g f = omega arith
 
 within : (s n most end : ℕ) → (1 ≤ n) × (n ≤ most) × (s + n ≤ end) → (leb 1 n && leb n most && leb (s + n) end) ≡ true
 within s n most end f = and-both (and-both (le-leb _ _ (f .0)) (le-leb _ _ (f .1))) (le-leb _ _ (f .2))
 
-fits-allowed : (c : Change) → Fits c → allowed c ≡ true
-fits-allowed Nothing f = refl
-fits-allowed (InMemory s n) f = within s n 16 4096 f
-fits-allowed (InPicture s n) f = within s n 256 256 f
+fits-allowed : (end : ℕ) (c : Change) → Fits end c → allowed end c ≡ true
+fits-allowed end Nothing f = refl
+fits-allowed end (InMemory s n) f = within s n 16 end f
+fits-allowed end (InPicture s n) f = within s n 256 256 f
 
-old-length : (c : Change) (b : Board) → GoodBoard b → Fits c → length (old c (b .memory) (b .picture)) ≡ count c
+old-length : (c : Change) (b : Board) → GoodBoard b → Fits (b .machine .end) c → length (old c (b .memory) (b .picture)) ≡ count c
 old-length Nothing b g f = refl
-old-length (InMemory s n) b g f = part-length (b .memory) s n (omega (arith, f, g .memory .size))
+old-length (InMemory s n) b g f = part-length (b .memory) s n (omega (arith, f, g .memory .size, g .machine .end .most))
 old-length (InPicture s n) b g f = part-length (b .picture) s n (omega (arith, f, g .picture .size))
 
 -- ---- the parts that are given back
@@ -125,12 +125,12 @@ picture-back r (InPicture s n) b b′ o e = rw e (put-back (b′ .picture) (b .p
 
 -- ---- UNDO
 
-module _ (c : Change) (a : Action) (b : Board) (g : GoodBoard b) (fits : Fits c) where
+module _ (c : Change) (a : Action) (b : Board) (g : GoodBoard b) (fits : Fits (b .machine .end) c) where
   pub written-length : length (recordOf c a b) ≡ 292
-  written-length = record-length (b .machine) c _ a (g .machine .v .size) (old-length c b g fits) ((fits-start c fits) .1)
+  written-length = record-length (b .machine) c _ a (g .machine .v .size) (old-length c b g fits) ((fits-start c (g .machine .end) fits) .1)
 
   pub written-reads : Reads (recordOf c a b) (b .machine) c (old c (b .memory) (b .picture)) a
-  written-reads = let (s, n) = fits-start c fits in reads (b .machine) c _ a (g .machine) s n (old-length c b g fits)
+  written-reads = let (s, n) = fits-start c (g .machine .end) fits in reads (b .machine) c _ a (g .machine) s n (old-length c b g fits)
 
 pub undo : (c : Change) (a : Action) (b b′ : Board) → GoodBoard b → GoodBoard b′ → Undoable c b b′
     → chosen (b′ .machine) ≡ chosen (b .machine) → Recounts b b′ → Restores (recordOf c a b) b′ b
@@ -147,6 +147,7 @@ undo c a b b′ g g′ u kept n =
           wait = wait i;
           edition = kept i .edition;
           lit = lit i;
+          end = kept i .end;
         };
         memory = memory i;
         picture = picture i;
@@ -182,8 +183,8 @@ undo c a b b′ g g′ u kept n =
     wait : waitAt r ≡ m .wait
     wait = rw (read .held) (wait-back (m .wait) (g .machine .wait))
 
-    change-sound : changeSound r ≡ true
-    change-sound = and-both (read .marked) (rw (read .change) (fits-allowed c (u .fits)))
+    change-sound : changeSound (b′ .machine .end) r ≡ true
+    change-sound = and-both (read .marked) (rw (read .change, ap (λ (c : Chosen). c .end) kept) (fits-allowed (m .end) c (u .fits)))
 
     depth-sound : depthSound r (b′ .machine .depth) ≡ true
     depth-sound = rw (read .depth, read .last)
@@ -192,9 +193,9 @@ undo c a b b′ g g′ u kept n =
 
 -- ---- what can be used of a record that is not damaged
 
-pub record Usable (r : List ℕ) : Type 0 where
+pub record Usable (end : ℕ) (r : List ℕ) : Type 0 where
   pub shallow : byteAt r 22 ≤ 12
-  pub fits : Fits (changeAt r)
+  pub fits : Fits end (changeAt r)
   pub held : heldSound (waitAt r) ≡ true
 
 inside : (s n most end : ℕ) → (leb 1 n && leb n most && leb (s + n) end) ≡ true → (1 ≤ n) × (n ≤ most) × (s + n ≤ end)
@@ -203,10 +204,10 @@ inside s n most end e =
     let both = and-eq-true-iff (leb 1 n) (leb n most) .0 (all .0) in
     (leb-true 1 n (both .0), leb-true n most (both .1), leb-true (s + n) end (all .1))
 
-allowed-fits : (c : Change) → allowed c ≡ true → Fits c
-allowed-fits Nothing e = tt
-allowed-fits (InMemory s n) e = inside s n 16 4096 e
-allowed-fits (InPicture s n) e = inside s n 256 256 e
+allowed-fits : (end : ℕ) (c : Change) → allowed end c ≡ true → Fits end c
+allowed-fits end Nothing e = tt
+allowed-fits end (InMemory s n) e = inside s n 16 end e
+allowed-fits end (InPicture s n) e = inside s n 256 256 e
 
 first : (a b c d : Bool) → (a && b && c && d) ≡ true → a ≡ true
 first true b c d e = refl
@@ -216,14 +217,14 @@ held-sound : (k : ℕ) (t : Bool) → (leb k 15 || t) ≡ true → heldSound (pi
 held-sound k true e = refl
 held-sound k false e = rw or-false at e
 
-pub usable : (r : List ℕ) (present : ℕ) → damaged r present ≡ false → Usable r
-usable r p e =
-    let whole = and-eq-true-iff (changeSound r && depthSound r p && keySound r) (kindSound r) .0 (not-false _ e) in
-    let all = and-eq-true-iff (changeSound r && depthSound r p) (keySound r) .0 (whole .0) in
-    let both = and-eq-true-iff (changeSound r) (depthSound r p) .0 (all .0) in
+pub usable : (end : ℕ) (r : List ℕ) (present : ℕ) → damaged end r present ≡ false → Usable end r
+usable end r p e =
+    let whole = and-eq-true-iff (changeSound end r && depthSound r p && keySound r) (kindSound r) .0 (not-false _ e) in
+    let all = and-eq-true-iff (changeSound end r && depthSound r p) (keySound r) .0 (whole .0) in
+    let both = and-eq-true-iff (changeSound end r) (depthSound r p) .0 (all .0) in
     let d = byteAt r 22 in
     record {
       shallow = leb-true d 12 (first (leb d 12) (leb d (p + 1)) (leb p (d + 1)) (not (eqb d 0) || eqb (wordAt r 23) 0) (both .1));
-      fits = allowed-fits (changeAt r) (and-eq-true-iff (known r) (allowed (changeAt r)) .0 (both .0) .1);
+      fits = allowed-fits end (changeAt r) (and-eq-true-iff (known r) (allowed end (changeAt r)) .0 (both .0) .1);
       held = held-sound (byteAt r 27) (eqb (byteAt r 27) 0xFF) (all .1);
     }

@@ -59,7 +59,7 @@ walks =
 abbrev start : ℕ → World
 start r =
     let program : List ℕ = 0x70 ∷ 0x01 ∷ 0x70 ∷ 0x01 ∷ 0x70 ∷ 0x01 ∷ 0x70 ∷ 0x01 ∷ [] in
-    world (fresh First) freshTrail (over (replicate memorySize 0) startAddress program 8) (replicate pictureSize 0) (replicate (r * placeSize) 0)
+    world (fresh First memorySize) freshTrail (over (replicate memorySize 0) startAddress program 8) (replicate pictureSize 0) (replicate (r * placeSize) 0)
 
 abbrev is : World → ℕ → ℕ → ℕ → ℕ → Bool
 is w next kept ahead v0 =

@@ -14,7 +14,7 @@ use Rattle.rules.specs.declared.Change.the-variants.{Nothing}
 use Rattle.rules.specs.declared.Refusal.the-variants.{PcPastEnd, NothingKept, BufferLength, Unsound, Damaged, NothingAhead}
 use Rattle.rules.specs.Number.{pick, unless, orLater}
 use Rattle.rules.specs.Refusal.{numberOf}
-use Rattle.rules.specs.State.{memorySize, withTimers}
+use Rattle.rules.specs.State.{withTimers}
 use Rattle.rules.specs.Instruction.{decode}
 use Rattle.rules.specs.Memory.{part, over}
 use Rattle.rules.specs.Step.{Board, refusalOf, litRefusal, changeOf, counted, after, pictureAfter}
@@ -50,7 +50,7 @@ changeBy Tick b = Nothing
 
 -- 1, then 2 or 3, then 4, 5 or 6
 abbrev pub stepTests : Board → ℕ
-stepTests b = unless (leb (b .machine .pc) (memorySize - 2)) (numberOf PcPastEnd) (refusalOf (opAt b) (b .machine))
+stepTests b = unless (leb (b .machine .pc) (b .machine .end - 2)) (numberOf PcPastEnd) (refusalOf (opAt b) (b .machine))
 
 -- 10 where the step would take the number of lit spots out of its range
 abbrev pub stepLate : Board → ℕ
@@ -142,7 +142,7 @@ backRefusal w =
     unless (buffersFit w) (numberOf BufferLength)
     (unless (soundly w) (numberOf Unsound)
     (unless (not (eqb (w .trail .kept) 0)) (numberOf NothingKept)
-    (unless (not (damaged (lastRecord w) (w .machine .depth))) (numberOf Damaged)
+    (unless (not (damaged (w .machine .end) (lastRecord w) (w .machine .depth))) (numberOf Damaged)
     (backLate w))))
 
 -- everything as the record has it; the history keeps its bytes

@@ -123,7 +123,7 @@ CopiedFewer =
 abbrev start : World
 start =
     let program : List ℕ = 0xA3 ∷ 0x00 ∷ 0x61 ∷ 0x1E ∷ 0xF1 ∷ 0x55 ∷ 0xD0 ∷ 0x15 ∷ 0x00 ∷ 0xE0 ∷ 0xF0 ∷ 0x33 ∷ 0xF0 ∷ 0x0A ∷ [] in
-    world (fresh First) freshTrail (over (replicate memorySize 0) startAddress program 14) (replicate pictureSize 0) (replicate (2 * placeSize) 0)
+    world (fresh First memorySize) freshTrail (over (replicate memorySize 0) startAddress program 14) (replicate pictureSize 0) (replicate (2 * placeSize) 0)
 
 abbrev ticks : List ℕ
 ticks = 0 ∷ 1 ∷ 0 ∷ 2 ∷ 0 ∷ 0 ∷ 3 ∷ 0 ∷ 0 ∷ 5 ∷ []

@@ -1,4 +1,5 @@
--- Request Q-5: the edition is what a load chose, no call that takes a state changes it, and in the first the instructions are as they were.
+-- Request Q-5: the edition is what a load chose, no call that takes a state changes it, or the end (Q-14), and in the first edition the
+-- instructions are as they were.
 use mathlib.Core.Path.{_≡_}
 use mathlib.Core.Bool.{Bool, _&&_, _||_}
 use mathlib.Core.List.{List}
@@ -42,10 +43,10 @@ added hi lo = eqb (hi / 16) 0x8 && isAdded (lo % 16)
 -- whatever a load answers, it hands back the edition that it was given
 abbrev pub LoadChooses : Type 0
 LoadChooses =
-    (edition : Edition) (program memory picture history : List ℕ)
-    → (load edition program memory picture history) .world .machine .edition ≡ edition
+    (edition : Edition) (end : ℕ) (program memory picture history : List ℕ)
+    → (load edition end program memory picture history) .world .machine .edition ≡ edition
 
--- a step, a tick, a step back, a step forward, a run and a play leave it
+-- a step, a tick, a step back, a step forward, a run and a play leave it, and the end too
 abbrev pub ChosenKept : Type 0
 ChosenKept = EachCall KeepsChosen
 

@@ -86,8 +86,8 @@ LitStill =
 -- true after an accepted load
 abbrev pub LoadLit : Type 0
 LoadLit =
-    (edition : Edition) (program memory picture history : List ℕ)
-    → let a = load edition program memory picture history in a .refusal ≡ 0 → TrueLit (a .world)
+    (edition : Edition) (end : ℕ) (program memory picture history : List ℕ)
+    → let a = load edition end program memory picture history in a .refusal ≡ 0 → TrueLit (a .world)
 
 -- kept true by each call that takes a state
 abbrev pub LitKept : Type 0
@@ -107,7 +107,7 @@ pub record NeverLate (w : World) : Type 0 where
       unless (buffersFit w) (numberOf BufferLength)
       (unless (soundly w) (numberOf Unsound)
       (unless (not (eqb (w .trail .kept) 0)) (numberOf NothingKept)
-      (unless (not (damaged (lastRecord w) (w .machine .depth))) (numberOf Damaged)
+      (unless (not (damaged (w .machine .end) (lastRecord w) (w .machine .depth))) (numberOf Damaged)
       0)))
   pub forward : forwardRefusal w ≡
       unless (buffersFit w) (numberOf BufferLength)
@@ -147,7 +147,7 @@ shows b = b ∷ replicate 255 0
 abbrev before : World
 before =
     let memory = over (over (replicate memorySize 0) startAddress (0xD0 ∷ 0x11 ∷ []) 2) 0x0300 (0x70 ∷ []) 1 in
-    world (withLit 4 (withI 0x0300 (fresh First))) freshTrail memory (shows 0xF0) (replicate placeSize 0)
+    world (withLit 4 (withI 0x0300 (fresh First memorySize))) freshTrail memory (shows 0xF0) (replicate placeSize 0)
 
 -- the same world, where somebody else wrote another number
 abbrev told : ℕ → World → World

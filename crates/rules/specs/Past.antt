@@ -136,5 +136,5 @@ RunsTyped =
 -- an accepted load gives such a start
 abbrev pub LoadStarts : Type 0
 LoadStarts =
-    (edition : Edition) (program memory picture history : List ℕ) → Below 256 program
-    → let a = load edition program memory picture history in a .refusal ≡ 0 → TypedBoard (boardOf (a .world)) × Start (a .world)
+    (edition : Edition) (end : ℕ) (program memory picture history : List ℕ) → Below 256 program
+    → let a = load edition end program memory picture history in a .refusal ≡ 0 → TypedBoard (boardOf (a .world)) × Start (a .world)

@@ -12,7 +12,7 @@ use Rattle.rules.specs.declared.Action.the-variants.{Step, Tick}
 use Rattle.rules.specs.declared.Change.{Change}
 use Rattle.rules.specs.declared.Change.the-variants.{Nothing, InMemory, InPicture}
 use Rattle.rules.specs.Number.{pick, word}
-use Rattle.rules.specs.State.{memorySize, pictureSize, stackSize}
+use Rattle.rules.specs.State.{pictureSize, stackSize}
 use Rattle.rules.specs.Memory.{part, over}
 use Rattle.rules.specs.Step.{Board, counted}
 
@@ -83,11 +83,11 @@ count Nothing = 0
 count (InMemory s n) = n
 count (InPicture s n) = n
 
--- at most 16 bytes, all of them in memory, or at most the whole picture
-abbrev pub allowed : Change → Bool
-allowed Nothing = true
-allowed (InMemory s n) = leb 1 n && leb n 16 && leb (s + n) memorySize
-allowed (InPicture s n) = leb 1 n && leb n pictureSize && leb (s + n) pictureSize
+-- at most 16 bytes, all of them in memory, which has that end, or at most the whole picture
+abbrev pub allowed : ℕ → Change → Bool
+allowed end Nothing = true
+allowed end (InMemory s n) = leb 1 n && leb n 16 && leb (s + n) end
+allowed end (InPicture s n) = leb 1 n && leb n pictureSize && leb (s + n) pictureSize
 
 -- the bytes that are about to change
 abbrev pub old : Change → List ℕ → List ℕ → List ℕ
@@ -145,8 +145,8 @@ abbrev pub known : List ℕ → Bool
 known r = marked r 0x4D 0x45 || marked r 0x44 0x49 || (marked r 0x4E 0x4F && eqb (wordAt r atStart) 0 && eqb (wordAt r atCount) 0)
 
 -- its start and count are what the mark allows
-abbrev pub changeSound : List ℕ → Bool
-changeSound r = known r && allowed (changeAt r)
+abbrev pub changeSound : ℕ → List ℕ → Bool
+changeSound end r = known r && allowed end (changeAt r)
 
 abbrev pub depthSound : List ℕ → ℕ → Bool
 depthSound r present =
@@ -160,9 +160,9 @@ keySound r = leb (byteAt r atHeld) 15 || eqb (byteAt r atHeld) 0xFF
 abbrev pub kindSound : List ℕ → Bool
 kindSound r = leb (byteAt r atKind) 1
 
--- beside a state of that depth
-abbrev pub damaged : List ℕ → ℕ → Bool
-damaged r present = not (changeSound r && depthSound r present && keySound r && kindSound r)
+-- beside a state of that end and that depth
+abbrev pub damaged : ℕ → List ℕ → ℕ → Bool
+damaged end r present = not (changeSound end r && depthSound r present && keySound r && kindSound r)
 
 -- the action that it was written beside
 abbrev pub actionAt : List ℕ → Action
@@ -175,7 +175,7 @@ waitAt r = pick (eqb (byteAt r atHeld) 0xFF) Idle (Held (byteAt r atHeld))
 abbrev pub stackAt : List ℕ → List ℕ → List ℕ
 stackAt r stack = take (byteAt r atDepth) (set stack (byteAt r atDepth - 1) (wordAt r atLast)) ++ replicate (stackSize - byteAt r atDepth) 0
 
--- all but the edition, which a load chose, and the number of lit spots: of these a record keeps nothing
+-- all but the edition and the end, which a load chose, and the number of lit spots: of these a record keeps nothing
 abbrev pub machineAt : List ℕ → Machine → Machine
 machineAt r m =
     record {
@@ -188,6 +188,7 @@ machineAt r m =
       wait = waitAt r;
       edition = m .edition;
       lit = m .lit;
+      end = m .end;
     }
 
 abbrev pub memoryAt : Change → List ℕ → List ℕ → List ℕ

@@ -15,7 +15,7 @@ use Rattle.rules.specs.declared.Refusal.the-variants as refusal
 use Rattle.rules.specs.declared.Refusal.the-variants.{StackFull, StackEmpty, MemoryPastEnd, Unsound}
 use Rattle.rules.specs.Number.{pick, unless, same}
 use Rattle.rules.specs.Refusal.{numberOf}
-use Rattle.rules.specs.State.{memorySize, pictureSize, spotCount, stackSize, reg, upTo, withV, withI, withReg, withWait, withLit}
+use Rattle.rules.specs.State.{pictureSize, spotCount, stackSize, reg, upTo, withV, withI, withReg, withWait, withLit}
 use Rattle.rules.specs.Registers.{simple, awaited, called, returned, onward}
 use Rattle.rules.specs.Picture.{drawn, darkened, litSpots}
 use Rattle.rules.specs.Memory.{over, part, digitsOf}
@@ -27,7 +27,7 @@ abbrev pub reach : Machine → ℕ → ℕ
 reach m n = pick (eqb n 0) 0 (m .i + n)
 
 abbrev pub past : Machine → ℕ → ℕ
-past m n = unless (leb (reach m n) memorySize) (numberOf MemoryPastEnd) 0
+past m n = unless (leb (reach m n) (m .end)) (numberOf MemoryPastEnd) 0
 
 unfoldable pub refusalOf : Op → Machine → ℕ
 refusalOf (Plain s) m = 0

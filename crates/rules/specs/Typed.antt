@@ -25,6 +25,7 @@ pub record TypedMachine (m : Machine) : Type 0 where
   pub delay : m .timers .delay < 256
   pub tone : m .timers .tone < 256
   pub lit : m .lit < 65536
+  pub end : m .end < 65536
 
 pub record TypedBoard (b : Board) : Type 0 where
   pub machine : TypedMachine (b .machine)

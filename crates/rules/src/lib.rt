@@ -20,7 +20,7 @@ pub enum Edition {
     Second,
 }
 
-// The machine's state, with the edition that a load chose and the number of lit spots of the picture.
+// The machine's state, with the edition and the end of memory that a load chose and the number of lit spots of the picture.
 pub struct Machine {
     pub v: [u8; 16],
     pub i: u16,
@@ -31,12 +31,16 @@ pub struct Machine {
     pub wait: Wait,
     pub edition: Edition,
     pub lit: u16,
+    pub end: u16,
 }
 
 impl Machine {
-    // The bytes of memory, the bytes, the rows and the spots of the picture, the entries of the stack, the address that a program is loaded at, and
-    // the fewest bytes that are too many for one: a reader that takes so many sees that a program is too long.
+    // The bytes of lent memory, where memory ends in the 2K profile, the bytes, the rows and the spots of the picture, the entries of the stack, the
+    // address that a program is loaded at, and the fewest bytes that are too many for one, whatever the end is: a reader that takes so many sees that
+    // a program is too long.
     pub const MEMORY: usize = 4096;
+
+    pub const SMALL_END: usize = 1696;
 
     pub const PICTURE: usize = 256;
 
@@ -50,9 +54,9 @@ impl Machine {
 
     pub const TOO_LONG: usize = Machine::MEMORY - Machine::START + 1;
 
-    // The state after a load of that edition.
-    pub fn fresh(edition: Edition) -> Machine
-        ensures { λ r. ⌜ r ≡ state.fresh edition ⌝ }
+    // The state after a load of that edition and that end.
+    pub fn fresh(edition: Edition, end: u16) -> Machine
+        ensures { λ r. ⌜ r ≡ state.fresh edition end ⌝ }
     {
         Machine {
             v: [0; 16],
@@ -64,6 +68,7 @@ impl Machine {
             wait: Wait::Idle,
             edition: edition,
             lit: 0,
+            end: end,
         }
     }
 }

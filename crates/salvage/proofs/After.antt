@@ -37,7 +37,7 @@ module _ (m : Machine) (t : Trail) (history list : List ℕ) (a : Admitted m t h
   after = cleared (others r n k) history
 
   pub row-few : k ≤ r
-  row-few = omega (arith, row-most history (t .kept) n (m .depth), a .limit)
+  row-few = omega (arith, row-most (m .end) history (t .kept) n (m .depth), a .limit)
 
   pub only : OnlyOthers n k history after
   only = clears-others history n k
@@ -59,8 +59,8 @@ module _ (m : Machine) (t : Trail) (history list : List ℕ) (a : Admitted m t h
       rw (as-many, only .place (placeBack r n j) (back-below r n j (a .next)), there)
 
   -- so the row is found again
-  pub row-again : row after k n (m .depth) ≡ k
-  row-again = row-stays history after (t .kept) n (m .depth) same-record
+  pub row-again : row (m .end) after k n (m .depth) ≡ k
+  row-again = row-stays (m .end) history after (t .kept) n (m .depth) same-record
 
   -- and clearing the other places again changes nothing
   pub clear-again : cleared (others r n k) after ≡ after
@@ -71,7 +71,7 @@ salvage-done m t history list =
     of-accepted m t history list (Salvages m t history list)
     (λ a.
     record {
-      row = row-longest history (t .kept) (t .next) (m .depth);
+      row = row-longest (m .end) history (t .kept) (t .next) (m .depth);
       trail = refl;
       others = only m t history list a;
       each = once m t history list a;

@@ -40,7 +40,7 @@ module _ (w : World) (h : Ready w) where
   unfolding backRefusal
   nothing-left e = rw (ready-fits w h, ready-soundly w h, e)
 
-  only-late : (k : ℕ) → w .trail .kept ≡ suc k → damaged (lastRecord w) (w .machine .depth) ≡ false → backRefusal w ≡ backLate w
+  only-late : (k : ℕ) → w .trail .kept ≡ suc k → damaged (w .machine .end) (lastRecord w) (w .machine .depth) ≡ false → backRefusal w ≡ backLate w
   unfolding backRefusal
   only-late k e d = rw (ready-fits w h, ready-soundly w h, ne-eqb (w .trail .kept) 0 (λ z. omega arith), d)
 
@@ -51,12 +51,12 @@ record Whole (k : ℕ) (w : World) : Type 0 where
   ready : Ready w
   bytes : Below 256 (w .history)
   kept : w .trail .kept ≡ k
-  row : row (w .history) k (w .trail .next) (w .machine .depth) ≡ k
+  row : row (w .machine .end) (w .history) k (w .trail .next) (w .machine .depth) ≡ k
 
 module _ (k : ℕ) (w : World) (h : Whole (suc k) w) where
-  first-two : (damaged (lastRecord w) (w .machine .depth) ≡ false)
-      × (row (w .history) k (placeBefore (places (w .history)) (w .trail .next)) (byteAt (lastRecord w) atDepth) ≡ k)
-  first-two = row-first (w .history) k (w .trail .next) (w .machine .depth) (h .row)
+  first-two : (damaged (w .machine .end) (lastRecord w) (w .machine .depth) ≡ false)
+      × (row (w .machine .end) (w .history) k (placeBefore (places (w .history)) (w .trail .next)) (byteAt (lastRecord w) atDepth) ≡ k)
+  first-two = row-first (w .machine .end) (w .history) k (w .trail .next) (w .machine .depth) (h .row)
 
   whole-late : backRefusal w ≡ backLate w
   whole-late = only-late w (h .ready) k (h .kept) (first-two .0)

@@ -5,12 +5,12 @@ use Prim.Native.Nat.{ℕ, _+_, _-_, _*_}
 use lib.ListN.{length, drop, replicate}
 use lib.Dec.{T, eqb}
 use Rattle.rules.specs.declared.Action.the-variants.{Tick}
-use Rattle.rules.specs.declared.Change.the-variants.{Nothing}
+use Rattle.rules.specs.declared.Change.the-variants.{Nothing, InMemory}
 use Rattle.rules.specs.declared.Edition.the-variants.{First}
 use Rattle.rules.specs.declared.Machine.{Machine}
 use Rattle.rules.specs.declared.Trail.{Trail}
 use Rattle.rules.specs.Number.{pick, same}
-use Rattle.rules.specs.State.{stackSize, fresh, withStack}
+use Rattle.rules.specs.State.{memorySize, smallEnd, stackSize, fresh, withStack}
 use Rattle.rules.specs.Memory.{over}
 use Rattle.rules.specs.Record.{placeSize, recordWith}
 use Rattle.salvage_row.specs.Row.{row}
@@ -88,7 +88,7 @@ tests =
 
 -- a state at a depth, with as many return addresses
 abbrev at : ℕ → Machine
-at d = withStack (replicate d 0x0300 ++ replicate (stackSize - d) 0) d (fresh First)
+at d = withStack (replicate d 0x0300 ++ replicate (stackSize - d) 0) d (fresh First memorySize)
 
 abbrev trail : Numbers → Trail
 trail (numbers next kept ahead) = record { next = next; kept = kept; ahead = ahead }
@@ -154,8 +154,16 @@ abbrev all : {A : Type 0} → (A → Bool) → List A → Bool
 all f [] = true
 all f (x ∷ xs) = f x && all f xs
 
+-- how many records a salvage keeps of a history of one, which changes three bytes of memory from an address on, beside a state of that end (Q-14)
+abbrev keeps : ℕ → ℕ → ℕ
+keeps e s =
+    let m = fresh First e in
+    (salvage m (trail (numbers 0 1 0)) (recordWith m (InMemory s 3) (replicate 3 0x55) Tick) (replicate 2 7)) .kept
+
 -- ---- THE CASES COME OUT SO
 
-come : T (all comes cases && all passes tests)
+come : T
+    (all comes cases && all passes tests
+    && eqb (keeps smallEnd 0x069D) 1 && eqb (keeps smallEnd 0x069E) 0 && eqb (keeps memorySize 0x069E) 1)
 unfolding cases tests recordWith row othersFrom cleared entries salvageRefusal salvage
 come = tt

@@ -16,7 +16,7 @@ use Rattle.salvage.specs.Salvage.{Salvage, salvage}
 -- the row is the longest, next stays, ahead is 0; the other places, and they alone, are cleared, each place being kept or cleared; and the list
 -- tells of each of them and is as long as it was
 pub record Salvages (m : Machine) (t : Trail) (history list : List ℕ) (s : Salvage) : Type 0 where
-  pub row : Longest history (t .kept) (t .next) (m .depth) (s .kept)
+  pub row : Longest (m .end) history (t .kept) (t .next) (m .depth) (s .kept)
   pub trail : s .trail ≡ record { next = t .next; kept = s .kept; ahead = 0 }
   pub others : OnlyOthers (t .next) (s .kept) history (s .history)
   pub each : s .kept + s .cleared ≡ places history

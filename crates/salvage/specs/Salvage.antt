@@ -36,9 +36,9 @@ salvageRefusal m t history list =
     (unless (sound m && trailFits t history) (numberOf Unsound)
     0)
 
--- the longest row of sound records among the kept ones, beside the present depth
+-- the longest row of sound records among the kept ones, beside the state's end and the present depth
 abbrev pub rowOf : Machine → Trail → List ℕ → ℕ
-rowOf m t history = row history (t .kept) (t .next) (m .depth)
+rowOf m t history = row (m .end) history (t .kept) (t .next) (m .depth)
 
 -- the places that are not in it
 abbrev pub othersOf : Machine → Trail → List ℕ → List ℕ

@@ -38,7 +38,7 @@ pub fn salvage(machine: Machine, trail: Trail, history: &mut [u8], list: &mut [u
         };
     };
     let places = chip8::places(history);
-    let kept = salvage_row::row_length(history, trail.kept, trail.next, machine.depth);
+    let kept = salvage_row::row_length(history, machine.end, trail.kept, trail.next, machine.depth);
     salvage_places::clear_others(history, trail.next, kept);
     let cleared = salvage_places::list_others(list, places, trail, kept);
     Salvaged {

@@ -17,14 +17,14 @@ recordAt history p = part history (placeSize * p) placeSize
 abbrev pub depthAt : List ℕ → ℕ
 depthAt r = byteAt r atDepth
 
--- of the `kept` records before place n, how many from the newest backwards are sound up to the first damaged one; the newest is compared
--- with the depth d, and each older one with the depth that the next newer one holds
-unfoldable pub row : List ℕ → ℕ → ℕ → ℕ → ℕ
-row history zero n d = 0
-row history (suc kept) n d =
+-- of the `kept` records before place n, how many from the newest backwards are sound up to the first damaged one, where memory has that
+-- end; the newest is compared with the depth d, and each older one with the depth that the next newer one holds
+unfoldable pub row : ℕ → List ℕ → ℕ → ℕ → ℕ → ℕ
+row end history zero n d = 0
+row end history (suc kept) n d =
     let p = placeBefore (places history) n in
     let r = recordAt history p in
-    pick (damaged r d) 0 (suc (row history kept p (depthAt r)))
+    pick (damaged end r d) 0 (suc (row end history kept p (depthAt r)))
 
 -- ---- the records one by one, counted from the newest, 0, backwards
 
@@ -41,20 +41,20 @@ abbrev pub depthBeside : List ℕ → ℕ → ℕ → ℕ → ℕ
 depthBeside history n d zero = d
 depthBeside history n d (suc j) = depthAt (recordBack history n j)
 
-abbrev pub damagedBack : List ℕ → ℕ → ℕ → ℕ → Bool
-damagedBack history n d j = damaged (recordBack history n j) (depthBeside history n d j)
+abbrev pub damagedBack : ℕ → List ℕ → ℕ → ℕ → ℕ → Bool
+damagedBack end history n d j = damaged end (recordBack history n j) (depthBeside history n d j)
 
 -- the k newest records are an unbroken row of sound ones, and no further than the kept ones
-pub record SoundRow (history : List ℕ) (kept n d k : ℕ) : Type 0 where
+pub record SoundRow (end : ℕ) (history : List ℕ) (kept n d k : ℕ) : Type 0 where
   pub most : k ≤ kept
-  pub sound : (j : ℕ) → j < k → damagedBack history n d j ≡ false
+  pub sound : (j : ℕ) → j < k → damagedBack end history n d j ≡ false
 
 -- and no row is longer
-pub record Longest (history : List ℕ) (kept n d k : ℕ) : Type 0 where
-  pub row : SoundRow history kept n d k
-  pub longest : (k′ : ℕ) → SoundRow history kept n d k′ → k′ ≤ k
+pub record Longest (end : ℕ) (history : List ℕ) (kept n d k : ℕ) : Type 0 where
+  pub row : SoundRow end history kept n d k
+  pub longest : (k′ : ℕ) → SoundRow end history kept n d k′ → k′ ≤ k
 
 -- ---- THE CLAIM, proved in proofs/Rows.antt: what the function counts is the longest row
 
 abbrev pub RowLongest : Type 0
-RowLongest = (history : List ℕ) (kept n d : ℕ) → Longest history kept n d (row history kept n d)
+RowLongest = (end : ℕ) (history : List ℕ) (kept n d : ℕ) → Longest end history kept n d (row end history kept n d)

@@ -4,7 +4,7 @@ use mathlib.Core.Bool.{true, _&&_, and-eq-true-iff}
 use mathlib.Core.List.{List}
 use Prim.Native.Nat.{ℕ, _+_}
 use native.Mathlib.Omega.{arith}
-use lib.ListN.{length, drop}
+use lib.ListN.{length}
 use lib.Dec.{ltb, leb}
 use borrow.Author.Tests.{ltb-true, leb-true}
 use Rattle.rules.specs.declared.Machine.{Machine}
@@ -14,10 +14,11 @@ use Rattle.rules.specs.declared.Outcome.{Outcome}
 use Rattle.rules.specs.declared.Outcome.the-variants.{Done, Refused}
 use Rattle.rules.specs.Number.{unless}
 use Rattle.rules.specs.Refusal.{number}
-use Rattle.rules.specs.State.{sound, zeros, heldSound}
+use Rattle.rules.specs.State.{sound}
 use Rattle.rules.specs.World.{World, world, places, historyFits, trailFits, soundly}
 use Rattle.rules.specs.Call.{tick, ticked, tickRefusal}
 use Rattle.rules.specs.Run.{unrefused}
+use Rattle.rules.proofs.Sound.{sound-parts}
 use Rattle.rules.proofs.Given.{Back, given-refused, answered-done, both-passed}
 use Rattle.moves.specs.Inner.{Tickable}
 
@@ -39,12 +40,9 @@ module _ (m : Machine) (t : Trail) (his : List ℕ) (o : Outcome)
       let room = and-eq-true-iff (leb 292 (length his)) (leb (length his) 65536) .0 fits in
       let parts = and-eq-true-iff (sound m) (trailFits t his) .0 sounds in
       let range = and-eq-true-iff (ltb (t .next) (places his)) (leb (t .kept + t .ahead) (places his)) .0 (parts .1) in
-      let clear = zeros (drop (m .depth) (m .stack)) in
-      let state = and-eq-true-iff (leb (m .depth) 12 && clear && heldSound (m .wait)) (leb (m .lit) 2048) .0 (parts .0) in
-      let first = and-eq-true-iff (leb (m .depth) 12 && clear) (heldSound (m .wait)) .0 (state .0) in
       let most = leb-true (length his) 65536 (room .1) in
       record {
-        shallow = leb-true (m .depth) 12 (and-eq-true-iff (leb (m .depth) 12) clear .0 (first .0) .0);
+        shallow = leb-true (m .depth) 12 (sound-parts m (parts .0) .depth);
         most = most;
         range = record { next = ltb-true _ _ (range .0); kept = omega (arith, leb-true (t .kept + t .ahead) (places his) (range .1)); few = omega arith };
       }

@@ -61,15 +61,15 @@ module _ {whole out : List ℕ} {at n : ℕ} {w : World} (p : Printed whole out 
 pub counted : (l : List ℕ) (r : ℕ) → r ≤ length l → Counts r l
 counted l r h = (h, sym (length-take-le r l h))
 
-abbrev start : List ℕ → Answer
-start program = load First program blankMemory blankPicture blankHistory
+abbrev start : ℕ → List ℕ → Answer
+start end program = load First end program blankMemory blankPicture blankHistory
 
-module _ (program : List ℕ) {out out′ : List ℕ} {k : ℕ} (p : Put header out 0 out′ k) where
-  pub load-refused : {out″ : List ℕ} {r n : ℕ} {w : World} → (start program) .refusal ≡ n → (n ≡ 0 → ⊥) → (start program) .world ≡ w → Put (stopLine n (w .machine .pc)) out′ k out″ r
-      → take r out″ ≡ traceOf program
+module _ (end : ℕ) (program : List ℕ) {out out′ : List ℕ} {k : ℕ} (p : Put header out 0 out′ k) where
+  pub load-refused : {out″ : List ℕ} {r n : ℕ} {w : World} → (start end program) .refusal ≡ n → (n ≡ 0 → ⊥) → (start end program) .world ≡ w → Put (stopLine n (w .machine .pc)) out′ k out″ r
+      → take r out″ ≡ traceOf end program
   unfolding traceOf
   load-refused {n = n} e ne f q = so-far q ∙ rw (so-far p, e, ne-eqb n 0 ne, f)
 
-  pub load-done : {l : List ℕ} {w : World} → (start program) .refusal ≡ 0 → (start program) .world ≡ w → l ≡ take k out′ ++ stepsFrom 64 1 w → l ≡ traceOf program
+  pub load-done : {l : List ℕ} {w : World} → (start end program) .refusal ≡ 0 → (start end program) .world ≡ w → l ≡ take k out′ ++ stepsFrom 64 1 w → l ≡ traceOf end program
   unfolding traceOf
   load-done e f g = g ∙ rw (so-far p, e, f)

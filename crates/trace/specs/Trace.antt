@@ -40,7 +40,8 @@ blankPicture = replicate pictureSize 0
 abbrev pub blankHistory : List ℕ
 blankHistory = replicate placeSize 0
 
-unfoldable pub traceOf : List ℕ → List ℕ
-traceOf program =
-    let a = load First program blankMemory blankPicture blankHistory in
+-- document 01's trace has the end 4,096
+unfoldable pub traceOf : ℕ → List ℕ → List ℕ
+traceOf end program =
+    let a = load First end program blankMemory blankPicture blankHistory in
     header ++ pick (eqb (a .refusal) 0) (stepsFrom 64 1 (a .world)) (stopLine (a .refusal) (a .world .machine .pc))

@@ -67,9 +67,9 @@ fn put_steps(
     line::put_stop(out, at, 0, m.pc)
 }
 
-pub fn put_trace(out: &mut [u8; 2048], program: &[u8]) -> usize
+pub fn put_trace(out: &mut [u8; 2048], end: u16, program: &[u8]) -> usize
     ensures { λ r. ⌜ Counts r (now (out .exit)) ⌝ }
-    ensures { λ r. ⌜ take r (now (out .exit)) ≡ rule.traceOf (now (program .entry)) ⌝ }
+    ensures { λ r. ⌜ take r (now (out .exit)) ≡ rule.traceOf end (now (program .entry)) ⌝ }
 {
     let mut memory = [0u8; Machine::MEMORY];
     let mut rows = [0u64; Machine::ROWS];
@@ -77,6 +77,7 @@ pub fn put_trace(out: &mut [u8; 2048], program: &[u8]) -> usize
     let at = line::put_header(out, 0);
     let start = chip8::load(
         Edition::First,
+        end,
         program,
         &mut memory,
         &mut rows,

@@ -21,8 +21,8 @@ still lit P h n = sym (no-later n (litRefusal lit P P) (same-passes lit P h))
 pub settled : (n k later : ℕ) → n ≡ k → (n ≡ 0 → ⊥) → n ≡ orLater k later
 settled n k later e some = by-test (λ (m : ℕ). n ≡ m) k 0 (λ z. absurd (some (omega arith))) (λ ne. e)
 
-pub within : (m : Machine) (n : ℕ) → past m n ≡ 0 → reach m n ≤ 4096
-within m n e = leb-true (reach m n) 4096 ((passed (leb (reach m n) 4096) 5 0 e) .0)
+pub within : (m : Machine) (n : ℕ) → past m n ≡ 0 → reach m n ≤ m .end
+within m n e = leb-true (reach m n) (m .end) ((passed (leb (reach m n) (m .end)) 5 0 e) .0)
 
 pub no-look : (lit : ℕ) (pattern : List ℕ) (column row : ℕ) (P : List ℕ) → 8 * length pattern ≤ lit → lit + 8 * length pattern ≤ 2048
     → litRefusal lit P (drawn pattern column row P) ≡ 0

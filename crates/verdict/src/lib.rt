@@ -18,7 +18,7 @@ use rules::Op;
 use rules::Outcome;
 use rules::Refusal;
 
-// Whether the n bytes from I on are in memory.
+// Whether the n bytes from I on are below the end of memory.
 fn past(c: Core, n: usize) -> Outcome
     requires { ⌜ n ≤ 256 ⌝ }
     ensures { λ r. ⌜ ((v stack : List ℕ) → number r ≡ rule.past (whole c v stack) n) ⌝ }
@@ -26,7 +26,7 @@ fn past(c: Core, n: usize) -> Outcome
     if n == 0 {
         return Outcome::Done;
     }
-    if c.i as usize + n <= Machine::MEMORY {
+    if c.i as usize + n <= c.end as usize {
         return Outcome::Done;
     }
     Outcome::Refused(Refusal::MemoryPastEnd)
@@ -62,7 +62,7 @@ fn late_clearing(lit: u16, rows: &[u64]) -> Outcome
 
 // DXYN: 6, then the late 10.
 fn drawable(c: Core, v: &[u8; 16], x: u8, y: u8, n: u8, memory: &[u8], rows: &[u64]) -> Outcome
-    requires { ⌜ (c .lit ≤ spotCount) × (length (now memory) ≡ memorySize) × (length (now rows) ≡ 32) ⌝ }
+    requires { ⌜ (c .lit ≤ spotCount) × (c .end ≤ memorySize) × (length (now memory) ≡ memorySize) × (length (now rows) ≡ 32) ⌝ }
     ensures { λ r. ⌜ ((stack : List ℕ) → number r ≡ orLater (rule.past (whole c (now (v .entry)) stack) n)
         (rule.litRefusal (c .lit) (bytesOf (now (rows .entry)))
         (rule.pictureAfter (Draw x y n) (whole c (now (v .entry)) stack) (now (memory .entry)) (bytesOf (now (rows .entry)))))) ⌝ }
@@ -76,7 +76,7 @@ fn drawable(c: Core, v: &[u8; 16], x: u8, y: u8, n: u8, memory: &[u8], rows: &[u
 
 // 2 or 3, then 4, 5 or 6, and after them the late 10, of a number of lit spots that would leave its range.
 pub fn judged(op: Op, c: Core, v: &[u8; 16], memory: &[u8], rows: &[u64]) -> Outcome
-    requires { ⌜ (c .lit ≤ spotCount) × (length (now memory) ≡ memorySize) × (length (now rows) ≡ 32) ⌝ }
+    requires { ⌜ (c .lit ≤ spotCount) × (c .end ≤ memorySize) × (length (now memory) ≡ memorySize) × (length (now rows) ≡ 32) ⌝ }
     ensures { λ r. ⌜ ((stack : List ℕ) → number r ≡ orLater (rule.refusalOf op (whole c (now (v .entry)) stack))
         (rule.litRefusal (c .lit) (bytesOf (now (rows .entry)))
         (rule.pictureAfter op (whole c (now (v .entry)) stack) (now (memory .entry)) (bytesOf (now (rows .entry)))))) ⌝ }

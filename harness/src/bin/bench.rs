@@ -14,7 +14,8 @@ use harness::card::{self, Archive};
 use harness::dots::PANEL;
 use harness::engine::{Engine, ACCEPTED, ANSWER};
 use harness::second::{
-    FIRST_EDITION, HISTORY_MOST, IMAGE, LIST_MOST, MEMORY, PICTURE, PLACE, ROWS, SECOND_EDITION,
+    FIRST_EDITION, FULL_END, HISTORY_MOST, IMAGE, LIST_MOST, MEMORY, PICTURE, PLACE, ROWS,
+    SECOND_EDITION,
 };
 use harness::tuned::Tuned;
 
@@ -267,7 +268,7 @@ impl<E: Engine<u64>> Desk<'_, E> {
         };
         let words = program.words.iter();
         let bytes: Vec<u8> = words.flat_map(|word| word.to_be_bytes()).collect();
-        let refusal = engine.load(desk.host.lend(), &bytes, program.edition);
+        let refusal = engine.load(desk.host.lend(), &bytes, program.edition, FULL_END);
         assert_eq!(refusal, 0, "a program of the measurements is loaded");
         desk
     }

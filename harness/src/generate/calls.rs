@@ -59,8 +59,9 @@ fn keys(entries: usize, random: &Random) -> Vec<u16> {
 }
 
 pub fn load(random: &Random) -> Call {
-    let length = match random.within(0..=3) {
+    let length = match random.within(0..=5) {
         0 => random.pick(&[0, 1, 2, 3, 3583, 3584, 3585, 3586, 4096, 5000]),
+        1 => random.pick(&[1183, 1184, 1185, 1186, 1696, 2048]),
         _ => random.within(1..=60),
     };
     Call::Load {
@@ -68,6 +69,10 @@ pub fn load(random: &Random) -> Call {
         edition: match random.once_in(5) {
             true => hosts::no_edition(random),
             false => hosts::edition(random),
+        },
+        end: match random.once_in(5) {
+            true => hosts::no_end(random),
+            false => hosts::end(random),
         },
     }
 }

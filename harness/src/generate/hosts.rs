@@ -4,8 +4,8 @@ use super::instructions;
 use crate::buffers::Host;
 use crate::random::Random;
 use crate::second::{
-    lit_spots, Machine, BYTES_A_ROW, FIRST_EDITION, HISTORY_MOST, LATER, MEMORY, PICTURE, PLACE,
-    SECOND_EDITION, SPOTS, STACK,
+    lit_spots, Machine, BYTES_A_ROW, FIRST_EDITION, FULL_END, HISTORY_MOST, LATER, MEMORY, PICTURE,
+    PLACE, SECOND_EDITION, SMALL_END, SPOTS, STACK,
 };
 
 const PLACES_MOST: usize = HISTORY_MOST / PLACE;
@@ -44,14 +44,24 @@ pub fn no_edition(random: &Random) -> u8 {
     random.pick(&[2, 3, 128, 255])
 }
 
+/// An end of memory that is in use.
+pub fn end(random: &Random) -> u16 {
+    random.pick(&[SMALL_END, FULL_END])
+}
+
+/// A number that is no such end.
+pub fn no_end(random: &Random) -> u16 {
+    random.pick(&[0, 1, 512, 1695, 1697, 2048, 4095, 4097, 0xA006, 0xFFFF])
+}
+
 /// A sound machine of any kind, with an empty history, for this picture.
 pub fn machine(places: usize, picture: &[u8], random: &Random) -> Machine {
-    let mut machine = Machine::fresh(edition(random));
+    let mut machine = Machine::fresh(edition(random), end(random));
     for register in 0..16 {
         machine.v[register] = instructions::value(random);
     }
-    machine.i = instructions::i_for(0, random);
-    machine.pc = instructions::pc(random);
+    machine.i = instructions::i_for(0, machine.end, random);
+    machine.pc = instructions::pc(machine.end, random);
     set_depth(&mut machine, random);
     machine.delay = random.pick(&[0, 1, 2, 255, random.byte()]);
     machine.tone = random.pick(&[0, 1, 2, 255, random.byte()]);
@@ -91,7 +101,7 @@ pub fn set_depth(machine: &mut Machine, random: &Random) {
     machine.depth = depth as u8;
     machine.stack = [0; STACK];
     for entry in 0..depth {
-        machine.stack[entry] = instructions::pc(random);
+        machine.stack[entry] = instructions::pc(machine.end, random);
     }
 }
 
@@ -147,7 +157,7 @@ pub fn set_reach(machine: &mut Machine, places: usize, random: &Random) {
 /// Makes an image unsound, or puts its numbers out of range, in one way.
 pub fn spoil_image(image: &mut [u8], places: usize, random: &Random) {
     let number = |value: usize| (value as u16).to_be_bytes();
-    match random.within(0..=8) {
+    match random.within(0..=9) {
         0 => image[20] = random.pick(&[13, 14, 16, 128, 255]),
         1 => {
             let depth = random.within(0..=STACK - 1);
@@ -167,7 +177,8 @@ pub fn spoil_image(image: &mut [u8], places: usize, random: &Random) {
             let lit = random.pick(&[above, above + 1, 0x1000, 0x8000, 0xFFFF]);
             image[56..58].copy_from_slice(&number(lit));
         }
-        7 => {
+        7 => image[58..60].copy_from_slice(&no_end(random).to_be_bytes()),
+        8 => {
             let kept = random.pick(&[places + 1, places + 2, 256, 0x8000, 0xFFFF]);
             image[50..52].copy_from_slice(&number(kept));
         }

@@ -120,9 +120,9 @@ pub fn bytes_needed(word: u16) -> u16 {
     }
 }
 
-/// A value of I, often at the edge for this word.
-pub fn i_for(word: u16, random: &Random) -> u16 {
-    let edge = 4096 - bytes_needed(word);
+/// A value of I, often at the edge for this word in a memory of that end.
+pub fn i_for(word: u16, end: u16, random: &Random) -> u16 {
+    let edge = end - bytes_needed(word);
     match random.within(0..=7) {
         0 => edge,
         1 => edge + 1,
@@ -158,15 +158,17 @@ pub fn value(random: &Random) -> u8 {
     }
 }
 
-pub fn pc(random: &Random) -> u16 {
-    match random.within(0..=7) {
+/// A value of PC, often near the end of memory.
+pub fn pc(end: u16, random: &Random) -> u16 {
+    match random.within(0..=8) {
         0 => random.pick(&[
             0, 1, 4092, 4093, 4094, 4095, 4096, 4097, 4098, 0x10FE, 0xFFFE, 0xFFFF,
         ]),
         1 => random.word() & 0x0FFF | 1,
         2 => random.word(),
-        3 => 4094,
-        _ => random.word() & 0x0FFE,
+        3 => end - 2,
+        4 => end - 4 + random.within(0..=6) as u16,
+        _ => random.word() % end & 0x0FFE,
     }
 }
 

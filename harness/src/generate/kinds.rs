@@ -5,8 +5,8 @@ use crate::buffers::{Host, Part};
 use crate::case::{write_bytes, Call, Case};
 use crate::random::Random;
 use crate::second::{
-    places, Machine, FIRST_EDITION, HISTORY_MOST, LIST_MOST, MEMORY, MOVE_BACK, MOVE_FORWARD,
-    MOVE_STEP, PICTURE, PLACE, START,
+    places, Machine, FIRST_EDITION, FULL_END, HISTORY_MOST, LIST_MOST, MEMORY, MOVE_BACK,
+    MOVE_FORWARD, MOVE_STEP, PICTURE, PLACE, START,
 };
 
 /// A new machine for a picture, and an instruction to stand at its PC, with
@@ -18,7 +18,7 @@ fn before_an_instruction(places: usize, picture: &[u8], random: &Random) -> (Mac
         2 => instructions::using_the_flag(machine.edition, random),
         _ => instructions::any(machine.edition, random),
     };
-    machine.i = instructions::i_for(word, random);
+    machine.i = instructions::i_for(word, machine.end, random);
     if word >> 12 == 0xD && random.once_in(2) {
         machine.lit = hosts::lit_near_a_limit(usize::from(word & 15), random);
     }
@@ -61,12 +61,12 @@ pub fn back_onto_a_record(random: &Random) -> Case {
         if machine.kept == 0 {
             (machine.kept, machine.ahead) = (1, 0);
         }
-        let mut record = records::whole(machine.depth, random);
+        let mut record = records::whole(machine.end, machine.depth, random);
         if record.starts_with(b"DI") && random.once_in(2) {
             machine.lit = hosts::lit_near_a_limit(records::count(&record), random);
         }
         for _ in 0..random.within(0..=2) {
-            records::spoil(&mut record, machine.depth, random);
+            records::spoil(&mut record, machine.end, machine.depth, random);
         }
         let before_next = (usize::from(machine.next) + places - 1) % places;
         made.push(calls::write_picture(picture));
@@ -103,9 +103,9 @@ pub fn forward_onto_a_record(random: &Random) -> Case {
             machine.ahead = 1;
             machine.kept = machine.kept.min(places as u16 - 1);
         }
-        let mut record = records::whole(machine.depth, random);
+        let mut record = records::whole(machine.end, machine.depth, random);
         for _ in 0..random.within(0..=2) {
-            records::spoil(&mut record, machine.depth, random);
+            records::spoil(&mut record, machine.end, machine.depth, random);
         }
         made.push(calls::write_picture(picture));
         made.push(Call::Write {
@@ -231,7 +231,7 @@ pub fn deep_calls(random: &Random) -> Case {
     start.image = machine.to_image().to_vec();
     for at in (0..MEMORY).step_by(2) {
         let word = match random.within(0..=4) {
-            0 | 1 => 0x2000 | random.word() & 0x0FFE,
+            0 | 1 => 0x2000 | random.word() % machine.end & 0x0FFE,
             2 | 3 => 0x00EE,
             _ => 0x6000 | random.word() & 0x0FFF,
         };
@@ -314,9 +314,9 @@ pub fn planted_history(random: &Random) -> Case {
         hosts::set_reach(&mut machine, places, random);
         let mut depth = machine.depth;
         for back in 1..=places {
-            let mut record = records::whole(depth, random);
+            let mut record = records::whole(machine.end, depth, random);
             if random.once_in(places + 1) {
-                records::spoil(&mut record, depth, random);
+                records::spoil(&mut record, machine.end, depth, random);
             }
             depth = record[22].min(12);
             made.push(Call::Write {
@@ -344,12 +344,15 @@ fn salvaged(places: usize, random: &Random) -> Vec<Call> {
     made
 }
 
-/// A program that runs for long, in the edition that it is written for.
+/// A program that runs for long, in the edition and the memory that it is written
+/// for.
 fn load_of_a_ring(random: &Random) -> Call {
     let edition = hosts::edition(random);
+    let end = hosts::end(random);
     Call::Load {
-        program: programs::ring(edition, random),
+        program: programs::ring(edition, end, random),
         edition,
+        end,
     }
 }
 
@@ -428,7 +431,7 @@ pub fn long_lists(random: &Random) -> Case {
 
 fn empty_host(history_length: usize) -> Host {
     Host {
-        image: Machine::fresh(FIRST_EDITION).to_image().to_vec(),
+        image: Machine::fresh(FIRST_EDITION, FULL_END).to_image().to_vec(),
         memory: vec![0; MEMORY],
         picture: vec![0; PICTURE],
         history: vec![0; history_length],

@@ -2,14 +2,22 @@
 
 use super::instructions;
 use crate::random::Random;
+use crate::second::SMALL_END;
 
 const CODE: u16 = 0x0200;
-/// Stores go from here on, so that most programs do not destroy themselves.
-const DATA: u16 = 0x0800;
+/// Stores go from here on, so that most programs do not destroy themselves: 2 KB
+/// below the end of the full memory, and 256 bytes below that of the small one,
+/// behind the longest program.
+fn data(end: u16) -> u16 {
+    match end {
+        SMALL_END => 0x05A0,
+        _ => 0x0800,
+    }
+}
 
 /// A jump over thirteen subroutines, each calling the next, and then a ring of
 /// pieces.
-pub fn ring(edition: u8, random: &Random) -> Vec<u8> {
+pub fn ring(edition: u8, end: u16, random: &Random) -> Vec<u8> {
     let routines = CODE + 6;
     let mut words = vec![0x1000 | (routines + 13 * 8), 0x0000, 0x0000];
     for level in 0..13u16 {
@@ -22,15 +30,15 @@ pub fn ring(edition: u8, random: &Random) -> Vec<u8> {
         words.extend([skip, deeper, 0x7E05, 0x00EE]);
     }
     for _ in 0..random.within(1..=40) {
-        words.extend(piece(routines, edition, random));
+        words.extend(piece(routines, edition, end, random));
     }
     words.push(0x1000 | CODE);
     words.iter().flat_map(|word| word.to_be_bytes()).collect()
 }
 
-fn piece(routines: u16, edition: u8, random: &Random) -> Vec<u16> {
+fn piece(routines: u16, edition: u8, end: u16, random: &Random) -> Vec<u16> {
     let x = u16::from(random.byte() & 15) << 8;
-    let far = DATA + (random.word() & 0x07FF);
+    let far = data(end) + random.word() % (end - data(end));
     match random.within(0..=15) {
         0 => vec![0x2000 | (routines + 8 * random.within(0..=12) as u16)],
         1..=3 => vec![0xA000 | far, instructions::using_memory(random)],

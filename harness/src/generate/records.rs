@@ -5,7 +5,7 @@ use crate::random::Random;
 use crate::second::PLACE;
 
 /// A record that a back onto it accepts, if nothing is spoilt afterwards.
-pub fn whole(present_depth: u8, random: &Random) -> Vec<u8> {
+pub fn whole(end: u16, present_depth: u8, random: &Random) -> Vec<u8> {
     let mut record = random.bytes(PLACE);
     let nearest = [
         present_depth.saturating_sub(1),
@@ -23,7 +23,8 @@ pub fn whole(present_depth: u8, random: &Random) -> Vec<u8> {
         0 => range(&mut record, b"NO", 0, 0),
         1 => {
             let count = random.pick(&[1, 2, 3, 15, 16, random.within(1..=16)]);
-            let start = random.pick(&[0, 4096 - count, random.within(0..=4096 - count)]);
+            let last = usize::from(end) - count;
+            let start = random.pick(&[0, last, random.within(0..=last)]);
             range(&mut record, b"ME", start, count);
         }
         _ => {
@@ -54,7 +55,7 @@ fn range(record: &mut [u8], mark: &[u8; 2], start: usize, count: usize) {
 }
 
 /// Changes one field to a value near an edge. The record may stay whole.
-pub fn spoil(record: &mut [u8], present_depth: u8, random: &Random) {
+pub fn spoil(record: &mut [u8], end: u16, present_depth: u8, random: &Random) {
     match random.within(0..=7) {
         0 => {
             let marks: [&[u8]; 14] = [
@@ -99,7 +100,7 @@ pub fn spoil(record: &mut [u8], present_depth: u8, random: &Random) {
         }
         4 => record[27] = random.pick(&[15, 16, 17, 127, 128, 254, 255]),
         5 => {
-            let (start, count) = edge(&record[0..2], random);
+            let (start, count) = edge(&record[0..2], end, random);
             record[28..30].copy_from_slice(&start.to_be_bytes());
             record[30..32].copy_from_slice(&count.to_be_bytes());
         }
@@ -108,10 +109,10 @@ pub fn spoil(record: &mut [u8], present_depth: u8, random: &Random) {
     }
 }
 
-/// A start and a count around the limits of the mark.
-fn edge(mark: &[u8], random: &Random) -> (u16, u16) {
+/// A start and a count around the limits of the mark, where memory has that end.
+fn edge(mark: &[u8], end: u16, random: &Random) -> (u16, u16) {
     let (size, most) = match mark {
-        b"ME" => (4096, 16),
+        b"ME" => (end, 16),
         _ => (256, 256),
     };
     let count = random.pick(&[0, 1, 2, most - 1, most, most + 1, 256, 257, 0x8000, 0xFFFF]);

@@ -20,10 +20,10 @@ use Rattle.act.proofs.act.Statement.{statement}
 use Rattle.act.proofs.act.Tie as tie
 
 called-requires : tie.Need-called-requires
-called-requires c κs = let s = c .before .before .before .before .before .before in (s .pre .near, call-room _ _ (s .pre .allowed) _ (c .before .before .op3 .given .1))
+called-requires c κs = let s = c .before .before .before .before .before .before in (s .pre .near, call-room _ _ (s .pre .allowed) (s .pre .end) _ (c .before .before .op3 .given .1))
 
 returned-requires : tie.Need-returned-requires
-returned-requires c κs = let s = c .before .before .before .before .before in (return-entry _ _ (s .pre .allowed) (c .before .enum-told .given .1), s .pre .shallow)
+returned-requires c κs = let s = c .before .before .before .before .before in (return-entry _ _ (s .pre .allowed) (s .pre .end) (c .before .enum-told .given .1), s .pre .shallow)
 
 clear-requires : tie.Need-clear-requires
 clear-requires c κs =
@@ -31,22 +31,22 @@ clear-requires c κs =
     (s .pre .near, s .pre .rows, clear-passes _ _ _ _ (s .pre .passes) (c .before .enum-told2 .given .1))
 
 pattern-requires : tie.Need-pattern-requires
-pattern-requires c κs = let s = c .before .before .before .before .before .before .before in (draw-reach _ _ (s .pre .allowed) _ _ _ (c .before .before .before .op4 .given .1), s .pre .memory)
+pattern-requires c κs = let s = c .before .before .before .before .before .before .before in (draw-reach _ _ (s .pre .allowed) (s .pre .end) _ _ _ (c .before .before .before .op4 .given .1), s .pre .memory)
 
 decimal-requires : tie.Need-decimal-requires
 decimal-requires c κs =
     let s = c .before .before .before .before .before .before .before in
-    record { near = s .pre .near; within = decimal-reach _ _ (s .pre .allowed) _ (c .before .before .before .op5 .given .1); memory = s .pre .memory }
+    record { near = s .pre .near; within = decimal-reach _ _ (s .pre .allowed) (s .pre .end) _ (c .before .before .before .op5 .given .1); memory = s .pre .memory }
 
 store-requires : tie.Need-store-requires
 store-requires c κs =
     let s = c .before .before .before .before .before .before .before in
-    record { near = s .pre .near; within = store-reach _ _ (s .pre .allowed) _ (c .before .before .before .op6 .given .1); memory = s .pre .memory }
+    record { near = s .pre .near; within = store-reach _ _ (s .pre .allowed) (s .pre .end) _ (c .before .before .before .op6 .given .1); memory = s .pre .memory }
 
 fetch-requires : tie.Need-fetch-requires
 fetch-requires c κs =
     let s = c .before .before .before .before .before .before .before in
-    record { near = s .pre .near; within = fetch-reach _ _ (s .pre .allowed) _ (c .before .before .before .op7 .given .1); memory = s .pre .memory }
+    record { near = s .pre .near; within = fetch-reach _ _ (s .pre .allowed) (s .pre .end) _ (c .before .before .before .op7 .given .1); memory = s .pre .memory }
 
 draw-requires : tie.Need-draw-requires
 draw-requires c κs =

@@ -1,4 +1,4 @@
--- The invariant: what is left from k on is clear exactly if all from 58 on is.
+-- The invariant: what is left from k on is clear exactly if all from 60 on is.
 use mathlib.Core.Path.{_≡_, refl, sym, _∙_}
 use Prim.Native.Nat.{_-_, _≤_}
 use native.Mathlib.Omega.{arith}
@@ -10,7 +10,7 @@ use Rattle.image.proofs.ends_clear.Statement.{statement}
 use Rattle.image.proofs.ends_clear.Tie as tie
 
 abbrev Inv-loop : tie.InvT-loop
-Inv-loop image k₀ k = (k ≤ 64) × (length image ≡ 64) × (zeros (drop 58 image) ≡ zeros (drop k image))
+Inv-loop image k₀ k = (k ≤ 64) × (length image ≡ 64) × (zeros (drop 60 image) ≡ zeros (drop k image))
 
 abbrev μ-loop : tie.MeasureT-loop
 μ-loop image k₀ k = 64 - k

@@ -9,7 +9,7 @@ use Rattle.image.proofs.machine_in.Tie as tie
 returns : tie.Need-returns
 unfolding machineOf
 returns c at =
-    let edition = c .before in
+    let edition = c .before .before in
     let wait = edition .before .before in
     let depth = wait .before .before in
     let pc = depth .before .before .before in
@@ -25,8 +25,9 @@ returns c at =
       timers = record { delay = byteAt image 21; tone = byteAt image 22 };
       wait = wait .wait-of .ensures at;
       edition = edition .edition-of .ensures at;
-      lit = c .word-at3 .ensures at;
+      lit = c .before .word-at3 .ensures at;
+      end = c .word-at4 .ensures at;
     }
 
 pub machine-in-spec : {M : Type 1} → statement M
-machine-in-spec = tie.close (tie.spec (λ c κs. omega arith) (λ c κs. omega arith) (λ c. omega arith) (λ c. omega arith) (λ c κs. omega arith) (λ c κs. omega arith) (λ c κs. omega arith) (λ c. omega arith) (λ c κs. tt) (λ c. omega arith) (λ c κs. tt) (λ c. omega arith) (λ c κs. tt) (λ c κs. omega arith) returns)
+machine-in-spec = tie.close (tie.spec (λ c κs. omega arith) (λ c κs. omega arith) (λ c. omega arith) (λ c. omega arith) (λ c κs. omega arith) (λ c κs. omega arith) (λ c κs. omega arith) (λ c. omega arith) (λ c κs. tt) (λ c. omega arith) (λ c κs. tt) (λ c. omega arith) (λ c κs. tt) (λ c κs. omega arith) (λ c κs. omega arith) returns)

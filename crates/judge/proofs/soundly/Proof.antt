@@ -21,6 +21,7 @@ typed c =
       delay = search needs;
       tone = search needs;
       lit = search needs;
+      end = search needs;
     }
 
 pub soundly-spec : {M : Type 1} → statement M

@@ -16,9 +16,13 @@ use Rattle.moves.proofs.step.Tie as tie
 abbrev given : tie.Start → World
 given s = let a = s .args in world (whole (a .c) (a .v .now) (a .stack .now)) (a .trail) (a .memory .now) (bytesOf (a .rows .now)) (a .history .now)
 
+-- memory goes beyond the program's address
+sub-if1 : tie.Need-sub-if1
+sub-if1 c = let s = c .before .before .before .before .before in omega (arith, s .pre .good .machine .end .least)
+
 returns : tie.Need-returns
 returns c =
-    let s = c .before .before .before .before .before in
+    let s = c .before .before .before .before .before .before in
     let past = c .if1 .taken in
     (far (given s) (s .pre) past _ _, (sym (far-dark (given s) (s .pre) past), omega arith, sym (far-copied (given s) (s .pre) past), omega arith))
 
@@ -26,7 +30,7 @@ returns-2 : tie.Need-returns-2
 returns-2 c =
     let judged = c .before .before in
     let decoded = judged .before .before .before .before in
-    let s = decoded .before .before .before .before .before .before .before .before in
+    let s = decoded .before .before .before .before .before .before .before .before .before in
     let refused = c .enum-told2 .given .1 in
     let says = rw refused at (judged .judged .ensures (s .args .stack .now)) in
     let op = decoded .decode .ensures in
@@ -38,11 +42,11 @@ returns-2 c =
 
 judged-requires : tie.Need-judged-requires
 judged-requires c κs =
-    let s = c .before .before .before .before .before .before .before .before .before .before .before in
-    (s .pre .good .machine .lit, s .pre .good .memory .size, picture-rows (s .args .rows .now) (s .pre .good .picture .size))
+    let s = c .before .before .before .before .before .before .before .before .before .before .before .before in
+    (s .pre .good .machine .lit, s .pre .good .machine .end .most, s .pre .good .memory .size, picture-rows (s .args .rows .now) (s .pre .good .picture .size))
 
 keep-requires : tie.Need-keep-requires
-keep-requires c κs = let s = c .before .before .before .before .before .before .before .before .before .before .before .before .before .before .before .before .before .before .before .before .before in (place-inside (given s) (s .pre), s .pre .good .machine .calls .most)
+keep-requires c κs = let s = c .before .before .before .before .before .before .before .before .before .before .before .before .before .before .before .before .before .before .before .before .before .before in (place-inside (given s) (s .pre), s .pre .good .machine .calls .most)
 
 keep-old-requires : tie.Need-keep-old-requires
 keep-old-requires c κs =
@@ -51,7 +55,7 @@ keep-old-requires c κs =
     let judged = told .before .before in
     let decoded = judged .before .before .before .before in
     let near = decoded .before .before .before in
-    let s = near .before .before .before .before .before in
+    let s = near .before .before .before .before .before .before in
     let allowed = sym (judged .judged .ensures (s .args .stack .now)) ∙ ap number (told .enum-told .given .1) in
     let rows = picture-rows (s .args .rows .now) (s .pre .good .picture .size) in (
       omega (arith, place-inside (given s) (s .pre), c .before .before .before .before .history .given),
@@ -64,7 +68,7 @@ act-requires c κs =
     let judged = told .before .before in
     let decoded = judged .before .before .before .before in
     let near = decoded .before .before .before in
-    let s = near .before .before .before .before .before in
+    let s = near .before .before .before .before .before .before in
     let allowed = sym (judged .judged .ensures (s .args .stack .now)) ∙ ap number (told .enum-told .given .1) in
     let rows = picture-rows (s .args .rows .now) (s .pre .good .picture .size) in
     accepted (given s) (s .pre) _ (decoded .decode .ensures) (near .if1 .left) allowed (s .args .rows .now) refl rows
@@ -72,7 +76,7 @@ act-requires c κs =
 grown-requires : tie.Need-grown-requires
 grown-requires c κs =
     let placed = c .before .before .before .before .before .before .before .before .before .before .before .before .before .before .before .before .before .before .before .before .before .before .before .before in
-    let s = placed .before .before .before .before .before .before .before .before .before .before .before .before .before .before .before .before in
+    let s = placed .before .before .before .before .before .before .before .before .before .before .before .before .before .before .before .before .before in
     rw (placed .places .ensures) ((tickable (given s) (s .pre)) .range)
 
 returns-3 : tie.Need-returns-3
@@ -86,7 +90,7 @@ returns-3 c =
     let judged = told .before .before in
     let decoded = judged .before .before .before .before in
     let near = decoded .before .before .before in
-    let s = near .before .before .before .before .before in
+    let s = near .before .before .before .before .before .before in
     let change = changed .change-of .ensures (s .args .stack .now) in
     let op = decoded .decode .ensures in
     let allowed = sym (judged .judged .ensures (s .args .stack .now)) ∙ ap number (told .enum-told .given .1) in
@@ -106,5 +110,5 @@ returns-3 c =
 
 pub step-spec : {M : Type 1} → statement M
 step-spec =
-    tie.close (tie.spec (search needs) (search needs) returns (search needs) (search needs) (search needs) (search needs) judged-requires (search needs) (search needs) (search needs) (search needs) returns-2
+    tie.close (tie.spec (search needs) (search needs) sub-if1 returns (search needs) (search needs) (search needs) (search needs) judged-requires (search needs) (search needs) (search needs) (search needs) returns-2
     (search needs) (search needs) keep-requires keep-old-requires act-requires grown-requires (λ c κs. tt) (λ c. omega arith) (λ c. omega arith) (λ c. omega arith) (λ c. omega arith) returns-3)

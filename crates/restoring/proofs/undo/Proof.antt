@@ -20,7 +20,7 @@ use Rattle.history.specs.declared.Restored.{Restored}
 use Rattle.history.specs.Restored.{restored}
 use Rattle.lit.specs.Balance.{Balance}
 use Rattle.lit.proofs.Laws.{in-range}
-use Rattle.restoring.proofs.Undone.{flag-read, intact-read, last-lent, nothing-kept, is-damaged, is-late, back-gives}
+use Rattle.restoring.proofs.Undone.{fits-lent, flag-read, intact-read, last-lent, nothing-kept, is-damaged, is-late, back-gives}
 use Rattle.restoring.proofs.undo.Statement.{statement}
 use Rattle.restoring.proofs.undo.Tie as tie
 
@@ -81,14 +81,14 @@ module _ (c : tie.Else2) where
   read : old ≡ restored r (w .machine)
   read = rw lent at (c .before .read .ensures)
 
-  intact : damaged r (w .machine .depth) ≡ false
+  intact : damaged (w .machine .end) r (w .machine .depth) ≡ false
   intact = sym (flag-read r (w .machine) old read) ∙ c .if2 .left
 
   whole : old ≡ record { damaged = false; machine = machineAt r (w .machine); change = changeAt r }
   whole = intact-read r (w .machine) old read intact
 
-  fits : Fits (old .change)
-  fits = rw whole ((usable r (w .machine .depth) intact) .fits)
+  fits : Fits 4096 (old .change)
+  fits = rw whole (fits-lent (w .machine .end) (changeAt r) (start .pre .good .machine .end .most) (usable (w .machine .end) r (w .machine .depth) intact .fits))
 
   rows : length (start .args .rows .now) ≡ 32
   rows = picture-rows (start .args .rows .now) (start .pre .good .picture .size)

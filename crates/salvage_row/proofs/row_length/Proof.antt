@@ -16,11 +16,11 @@ use Rattle.salvage_row.proofs.row_length.Statement.{statement}
 use Rattle.salvage_row.proofs.row_length.Tie as tie
 
 abbrev Inv-loop : tie.InvT-loop
-Inv-loop history kept next depth places n₀ d₀ k₀ n d k =
-    (places ≡ fit.places history) × (n < places) × (k + row history (kept - k) n d ≡ row history kept next depth)
+Inv-loop history end kept next depth places n₀ d₀ k₀ n d k =
+    (places ≡ fit.places history) × (n < places) × (k + row end history (kept - k) n d ≡ row end history kept next depth)
 
 abbrev μ-loop : tie.MeasureT-loop
-μ-loop history kept next depth places n₀ d₀ k₀ n d k = kept - k
+μ-loop history end kept next depth places n₀ d₀ k₀ n d k = kept - k
 
 -- what is lent from place p on is the record before place n
 lent-record : (history : List ℕ) (r p n : ℕ) → r ≡ fit.places history → p ≡ placeBefore r n
@@ -41,8 +41,9 @@ returns c =
     let before = c .before .before .before in
     let loop = before .before .before .loop in
     let same = lent-record _ _ _ (loop .n) (loop .inv .0) (before .place-before .ensures .0) in
-    let bad = ap (λ (r : List ℕ). damaged r (loop .d)) (sym same) ∙ sym (c .before .is-damaged .ensures) ∙ c .if1 .taken in
-    row-stop _ _ (loop .k) (loop .n) (loop .d) _ (omega arith) bad (loop .inv .2)
+    let end = before .before .before .before .before .before .args .end in
+    let bad = ap (λ (r : List ℕ). damaged end r (loop .d)) (sym same) ∙ sym (c .before .is-damaged .ensures) ∙ c .if1 .taken in
+    row-stop _ _ _ (loop .k) (loop .n) (loop .d) _ (omega arith) bad (loop .inv .2)
 
 loop-again : tie.Need-loop-again Inv-loop μ-loop
 loop-again c =
@@ -50,18 +51,19 @@ loop-again c =
     let loop = before .before .before .loop in
     let args = before .before .before .before .before .before .args in
     let history = args .history .now in
+    let end = args .end in
     let place = before .place-before .ensures in
     let same = lent-record history _ _ (loop .n) (loop .inv .0) (place .0) in
-    let good = ap (λ (r : List ℕ). damaged r (loop .d)) (sym same) ∙ sym (c .before .before .is-damaged .ensures) ∙ c .before .if1 .left in (
+    let good = ap (λ (r : List ℕ). damaged end r (loop .d)) (sym same) ∙ sym (c .before .before .is-damaged .ensures) ∙ c .before .if1 .left in (
       loop .inv .0,
       place .1,
-      ap₂ (λ (p d : ℕ). loop .k + 1 + row history (args .kept - (loop .k + 1)) p d) (place .0 ∙ ap (λ (r : ℕ). placeBefore r (loop .n)) (loop .inv .0))
+      ap₂ (λ (p d : ℕ). loop .k + 1 + row end history (args .kept - (loop .k + 1)) p d) (place .0 ∙ ap (λ (r : ℕ). placeBefore r (loop .n)) (loop .inv .0))
           (c .depth-at .ensures ∙ ap depthAt same)
-          ∙ row-turn history (args .kept) (loop .k) (loop .n) (loop .d) _ (omega arith) good (loop .inv .2),
+          ∙ row-turn end history (args .kept) (loop .k) (loop .n) (loop .d) _ (omega arith) good (loop .inv .2),
     )
 
 returns-2 : tie.Need-returns-2 Inv-loop μ-loop
-returns-2 c = row-over _ _ _ _ _ _ (omega arith) (c .before .loop .inv .2)
+returns-2 c = row-over _ _ _ _ _ _ _ (omega arith) (c .before .loop .inv .2)
 
 pub row-length-spec : {M : Type 1} → statement M
 row-length-spec =

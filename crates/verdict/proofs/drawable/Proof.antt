@@ -23,12 +23,13 @@ pattern-requires : tie.Need-pattern-requires
 pattern-requires c κs =
     let past = c .before .before in
     let s = past .before .before .before in
-    (within (whole (s .args .c) (s .args .v .now) []) (s .args .n) (sym (past .past .ensures (s .args .v .now) []) ∙ ap number (c .enum-told .given .1)), s .pre .1)
+    let below = within (whole (s .args .c) (s .args .v .now) []) (s .args .n) (sym (past .past .ensures (s .args .v .now) []) ∙ ap number (c .enum-told .given .1)) in
+    (omega (arith, below, s .pre .1), s .pre .2)
 
 late-drawing-requires : tie.Need-late-drawing-requires
 late-drawing-requires c κs =
     let s = c .before .before .before .before .before .before in
-    (s .pre .0, s .pre .2, rw (c .pattern .ensures) (simp length-take (omega arith)))
+    (s .pre .0, s .pre .3, rw (c .pattern .ensures) (simp length-take (omega arith)))
 
 returns-2 : tie.Need-returns-2
 unfolding after
