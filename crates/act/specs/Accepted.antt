@@ -8,9 +8,11 @@ use Rattle.rules.specs.declared.Machine.{Machine}
 use Rattle.rules.specs.declared.Op.{Op}
 use Rattle.rules.specs.State.{memorySize, stackSize}
 use Rattle.rules.specs.Rows.{bytesOf}
+use Rattle.transfers.specs.Other.{Other}
 use Rattle.rules.specs.Step.{refusalOf, litRefusal, pictureAfter}
 
 pub record Accepted (op : Op) (m : Machine) (mem picture : List ℕ) : Type 0 where
+  pub other : Other op
   pub end : m .end ≤ memorySize
   pub near : m .pc ≤ memorySize - 2
   pub shallow : m .depth ≤ stackSize

@@ -1,4 +1,3 @@
 -- What the contracts of this crate ask for and promise.
 pub mod Accepted
 pub mod Became
-pub mod Drawn

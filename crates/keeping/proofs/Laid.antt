@@ -48,19 +48,20 @@ four-pieces : (b f z i : List ℕ) → b ++ f ++ z ++ i ≡ b ++ (f ++ z ++ i)
 four-pieces b f z i = simp append-assoc
 
 -- a record without its old bytes: all of it is laid into a place
-pub blank-laid : (p m f v i : List ℕ) {p₁ p₂ p₃ p₄ p₅ y z x : List ℕ}
+pub blank-laid : (p m f v i : List ℕ) {p₁ p₂ p₃ p₄ p₅ y x : List ℕ}
     → p₁ ≡ over p 0 y (length y) → y ≡ m → length m ≡ 2 → length p₁ ≡ 292
-    → p₂ ≡ over p₁ 18 z (length z) → z ≡ f → length f ≡ 14 → length p₂ ≡ 292
+    → p₂ ≡ over p₁ 18 f 14 → length f ≡ 14 → length p₂ ≡ 292
     → p₃ ≡ over p₂ 32 (replicate 256 0) 256
     → p₄ ≡ over p₃ 288 x (length x) → x ≡ i → length i ≡ 4
     → p₅ ≡ over p₄ 2 v 16
     → p₅ ≡ m ++ v ++ f ++ replicate 256 0 ++ i
-blank-laid p m f v i {p₁} {p₂} {p₃} {p₄} {p₅} {y} {z} {x} e₁ hm two s₁ e₂ hf fourteen s₂ e₃ e₄ hi four e₅ =
+blank-laid p m f v i {p₁} {p₂} {p₃} {p₄} {p₅} {y} {x} e₁ hm two s₁ e₂ fourteen s₂ e₃ e₄ hi four e₅ =
     let b : List ℕ = take 18 p₁ in
     let o : List ℕ = replicate 256 0 in
     let t : List ℕ = drop 288 p₂ in
     let marked : take 2 p₁ ≡ m = behind p p₁ y m [] 0 2 e₁ (omega arith) hm two refl in
-    let front : take 32 p₂ ≡ b ++ f = behind p₁ p₂ z f b 18 14 e₂ (omega arith) hf fourteen refl in
+    let laid : p₂ ≡ over p₁ 18 f (length f) = rw fourteen e₂ in
+    let front : take 32 p₂ ≡ b ++ f = behind p₁ p₂ f f b 18 14 laid (omega arith) refl fourteen refl in
     let sized : length b ≡ 18 = simp length-take (omega arith) in
     let cleared : p₃ ≡ b ++ f ++ o ++ t = rw (e₃, front) in
     let full : length (b ++ f ++ o) ≡ 288 = simp (length-append, length-replicate) (omega arith) in

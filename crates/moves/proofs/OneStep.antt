@@ -3,7 +3,8 @@ use mathlib.Core.Path.{_≡_, refl, sym, ap, _∙_}
 use mathlib.Core.List.{List}
 use Prim.Native.Nat.{ℕ, _+_, _-_, _*_, _≤_, _<_}
 use native.Mathlib.Omega.{arith}
-use lib.ListN.{length, getD}
+use lib.Dec.{eqb}
+use lib.ListN.{length, getD, length-take}
 use borrow.Author.Tests.{le-leb, lt-leb, eq-eqb, ne-eqb}
 use Rattle.rules.specs.declared.Action.{Action}
 use Rattle.rules.specs.declared.Action.the-variants.{Step}
@@ -12,47 +13,42 @@ use Rattle.rules.specs.declared.Trail.{Trail}
 use Rattle.rules.specs.declared.Op.{Op}
 use Rattle.rules.specs.declared.Op.the-variants.{Plain, AwaitKey, Call, Return, Clear, Draw, Decimal, Store, Fetch}
 use Rattle.rules.specs.declared.Op.the-variants.{Unlisted, MachineCode}
+use Rattle.rules.specs.declared.Change.{Change}
+use Rattle.rules.specs.declared.Simple.{Simple}
+use Rattle.rules.specs.declared.Outcome.{Outcome}
 use Rattle.rules.specs.declared.Refusal.{Refusal}
 use Rattle.rules.specs.declared.Refusal.the-variants.{PcPastEnd}
 use Rattle.rules.specs.declared.Outcome.the-variants.{Done, Refused}
-use Rattle.rules.specs.Number.{orLater}
+use Rattle.rules.specs.Number.{pick, orLater}
 use Rattle.rules.specs.Refusal.{number}
-use Rattle.rules.specs.Memory.{over}
+use Rattle.rules.specs.Memory.{part, over}
 use Rattle.rules.specs.Record.{old, count, recordWith, recordOf}
 use Rattle.rules.specs.Rows.{bytesOf}
-use Rattle.rules.specs.Step.{refusalOf, litRefusal, changeOf, after, pictureAfter}
-use Rattle.rules.specs.World.{World, boardOf, places}
+use Rattle.rules.specs.Step.{refusalOf, litRefusal, changeOf, rowsChange, rowBytes, after, pictureAfter}
+use Rattle.rules.specs.World.{World, world, boardOf, places}
 use Rattle.rules.specs.Call.{opAt, step, stepped, stepRefusal, grown}
 use Rattle.rules.specs.Dark.{darkOf, stepDark}
 use Rattle.rules.specs.Copied.{stepCopied}
 use Rattle.rules.specs.Promise.{Gives}
-use Rattle.rules.proofs.Parts.{below-get}
-use Rattle.rules.proofs.Choices.{both-zero}
+use Rattle.rules.proofs.Parts.{below-get, part-length}
+use Rattle.rules.proofs.Choices.{both-zero, by-test}
+use Rattle.rules.proofs.Counted.{same-passes}
 use Rattle.rules.proofs.Ready.{Ready, step-own, stepped-follows}
 use Rattle.rules.proofs.Undo.{Fits}
 use Rattle.rules.proofs.Follow.{OpFits, decode-fits}
 use Rattle.rules.proofs.Copied.{table-counts, table-few}
 use Rattle.rules.proofs.Given.{Back, given-refused, answered-done, refused-some}
+use Rattle.transfers.specs.Other.{Other}
 use Rattle.act.specs.Accepted.{Accepted}
 use Rattle.act.specs.Became.{acted, Became}
-use Rattle.act.specs.Drawn.{patternBytes}
 use Rattle.keeping.specs.Writable.{blank, Reaches}
 use Rattle.keeping.proofs.Laid.{kept}
+use Rattle.parts.specs.Whole.{whole}
+use Rattle.parts.specs.declared.Core.{Core}
+use Rattle.moves.specs.declared.Stepped.{Stepped}
 use Rattle.moves.specs.Inner.{Tickable}
+use Rattle.moves.specs.Steps.{Reached, Made}
 use Rattle.moves.proofs.Keep.{reaches}
-
-fifteen : (o : Op) → OpFits o → patternBytes o ≤ 15
-fifteen (Plain s) f = omega arith
-fifteen (AwaitKey x) f = omega arith
-fifteen (Call a) f = omega arith
-fifteen Return f = omega arith
-fifteen Clear f = omega arith
-fifteen (Draw x y n) f = omega arith
-fifteen (Decimal x) f = omega arith
-fifteen (Store x) f = omega arith
-fifteen (Fetch x) f = omega arith
-fifteen Unlisted f = omega arith
-fifteen MachineCode f = omega arith
 
 module _ (w : World) (h : Ready w) where
   abbrev m : Machine
@@ -64,7 +60,7 @@ module _ (w : World) (h : Ready w) where
   -- ---- what is left of the judgement
 
   -- an instruction's numbers, and after them the late 10
-  abbrev verdict : Op → ℕ
+  abbrev pub verdict : Op → ℕ
   verdict op = orLater (refusalOf op m) (litRefusal (m .lit) (w .picture) (pictureAfter op m (w .memory) (w .picture)))
 
   near-left : m .pc ≤ m .end - 2 → stepRefusal w ≡ verdict (opAt (boardOf w))
@@ -138,9 +134,10 @@ module _ (w : World) (h : Ready w) where
     step-kept rows h₁ h₂ a sized =
         kept (w .history) h₁ h₂ (w .memory) rows (w .trail .next) m (changeOf op m) a (h .good .machine .v .size) place-inside (step-reaches rows sized)
 
-    pub accepted : (rows : List ℕ) → w .picture ≡ bytesOf rows → length rows ≡ 32 → Accepted op m (w .memory) rows
-    accepted rows is sized =
+    pub accepted : Other op → (rows : List ℕ) → w .picture ≡ bytesOf rows → length rows ≡ 32 → Accepted op m (w .memory) rows
+    accepted other rows is sized =
         record {
+          other = other;
           end = h .good .machine .end .most;
           near = omega (arith, near, h .good .machine .end .most);
           shallow = h .good .machine .calls .most;
@@ -161,10 +158,6 @@ module _ (w : World) (h : Ready w) where
     pub copied-few : count (changeOf op m) ≤ 256
     copied-few = rw (← table-counts op m) (table-few op m)
 
-    -- a pattern has at most fifteen bytes
-    pub few-bytes : patternBytes op ≤ 15
-    few-bytes = rw e (fifteen (opAt (boardOf w)) (decode-fits _ _ _ (byte (m .pc)) (byte (m .pc + 1))))
-
     -- ---- what they make together
 
     pub step-gives : (keys random : ℕ) (m′ : Machine) (t′ : Trail) (mem pic his : List ℕ)
@@ -177,3 +170,76 @@ module _ (w : World) (h : Ready w) where
         let b′ = rw e at b in
         rw (answered-done (stepRefusal w) (stepped keys random w) w passes)
         (record { says = refl; machine = b′ .machine; trail = t; memory = b′ .memory; picture = b′ .picture; history = rw e at k })
+
+-- ---- the ways through a step
+
+-- a refused step hands everything back
+pub back : (keys random : ℕ) (c : Core) (v stack : List ℕ) (t : Trail) (mem pic his : List ℕ) (o : Outcome)
+    → let w = world (whole c v stack) t mem pic his in
+    Back (step keys random w) o w → stepDark w ≡ 0 → stepCopied w ≡ 0
+    → Made keys random w (record { outcome = o; core = c; trail = t; dark = 0; copied = 0 }) v stack mem pic his
+back keys random c v stack t mem pic his o gives dark copied =
+    record { gives = gives; dark = sym dark; dark-few = omega arith; copied = sym copied; copied-few = omega arith }
+
+module _ (w : World) (op : Op) (r : Reached op w) where
+  -- and so does one whose instruction is refused
+  pub reached-refused : (keys random : ℕ) (f : Refusal) → number (Refused f) ≡ verdict w (r .ready) op
+      → Back (step keys random w) (Refused f) w × (stepDark w ≡ 0) × (stepCopied w ≡ 0)
+  reached-refused keys random f says = (
+    judged-refused w (r .ready) op f (r .there) (r .near) says keys random,
+    judged-dark w (r .ready) op f (r .there) (r .near) says,
+    judged-copied w (r .ready) op f (r .there) (r .near) says,
+  )
+
+  -- a pattern has at most fifteen bytes
+  pub fits : OpFits op
+  fits = rw (r .there) (decode-fits _ _ _ (byte w (r .ready) (w .machine .pc)) (byte w (r .ready) (w .machine .pc + 1)))
+
+  pub made : verdict w (r .ready) op ≡ 0 → (keys random : ℕ) (s : Stepped) (v stack mem pic his : List ℕ)
+      → s .outcome ≡ Done
+      → Became (acted op keys random (w .machine) (w .memory) (w .picture)) (whole (s .core) v stack) mem pic
+      → s .trail ≡ grown (places (w .history)) (w .trail)
+      → his ≡ over (w .history) (292 * w .trail .next) (recordOf (changeOf op (w .machine)) (Step keys random) (boardOf w)) 292
+      → s .dark ≡ darkOf op (w .machine) (w .memory) (w .picture) → s .dark ≤ 120 → s .copied ≡ count (changeOf op (w .machine))
+      → Made keys random w s v stack mem pic his
+  made allowed keys random s v stack mem pic his done became trail kept dark few copied =
+      let h = r .ready in
+      record {
+        gives = rw done (step-gives w h op (r .there) (r .near) allowed keys random _ _ _ _ _ became trail kept);
+        dark = dark ∙ sym (step-dark w h op (r .there) (r .near) allowed);
+        dark-few = few;
+        copied = copied ∙ sym (step-copied w h op (r .there) (r .near) allowed);
+        copied-few = rw copied (copied-few w h op (r .there) (r .near) allowed);
+      }
+
+-- an instruction on the state alone is never refused
+pub plain-passes : (w : World) (h : Ready w) (s : Simple) → verdict w h (Plain s) ≡ 0
+unfolding refusalOf after
+plain-passes w h s = same-passes (w .machine .lit) (w .picture) (h .good .machine .lit)
+
+-- the rows that a drawing keeps are those that it changes
+pub rows-old : (n row : ℕ) (mem pic : List ℕ) → (old (rowsChange n row) mem pic ≡ part pic (8 * row) (rowBytes n row)) × (count (rowsChange n row) ≡ rowBytes n row)
+rows-old n row mem pic =
+    by-test (λ (c : Change). (old c mem pic ≡ part pic (8 * row) (rowBytes n row)) × (count c ≡ rowBytes n row)) n 0
+    (λ e. let none : rowBytes n row ≡ 0 = omega arith in rw none (refl, refl)) (λ ne. (refl, refl))
+
+-- a pattern that is in memory is as long as it was asked for
+pub pattern-length : (mem : List ℕ) (i n : ℕ) → length mem ≡ 4096 → pick (eqb n 0) 0 (i + n) ≤ 4096 → length (part mem i n) ≡ n
+pattern-length mem i n sized =
+    by-test (λ (end : ℕ). end ≤ 4096 → length (part mem i n) ≡ n) n 0
+    (λ e h. rw e (simp length-take (omega arith))) (λ ne h. part-length mem i n (omega arith))
+
+-- only a drawing darkens spots
+pub other-dark : (op : Op) (m : Machine) (mem pic : List ℕ) → Other op → darkOf op m mem pic ≡ 0
+unfolding darkOf
+other-dark (AwaitKey x) m mem pic o = refl
+other-dark (Call a) m mem pic o = refl
+other-dark Return m mem pic o = refl
+other-dark Clear m mem pic o = refl
+other-dark (Decimal x) m mem pic o = refl
+other-dark (Store x) m mem pic o = refl
+other-dark (Fetch x) m mem pic o = refl
+other-dark Unlisted m mem pic o = refl
+other-dark MachineCode m mem pic o = refl
+other-dark (Plain s) m mem pic o = absurd o
+other-dark (Draw x y n) m mem pic o = absurd o

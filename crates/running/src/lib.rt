@@ -4,7 +4,6 @@ ghost use mathlib.Core.Bool.{true, _&&_};
 ghost use mathlib.Core.List.{List};
 ghost use Prim.Native.Nat.{ℕ, _*_, _≤_};
 ghost use Rattle.rules.specs.World.{world};
-ghost use Rattle.rules.specs.Call as rule;
 ghost use Rattle.rules.specs.Run.{tickedBy, runFrom, totalFrom, unrefused, listsFit};
 ghost use Rattle.rules.specs.Run as runs;
 ghost use Rattle.rules.specs.Dark.{stepDark, runDark};
@@ -14,6 +13,7 @@ ghost use Rattle.rules.specs.Rows.{bytesOf};
 ghost use Rattle.rules.proofs.Ready.{Ready};
 ghost use Rattle.parts.specs.Whole.{whole};
 ghost use Rattle.moves.specs.Inner.{Tickable};
+ghost use Rattle.moves.specs.Steps.{Made};
 use moves::Moved;
 use parts::Core;
 use parts::Ran;
@@ -69,19 +69,10 @@ fn entry(
     random: u8,
 ) -> moves::Stepped
     requires { ⌜ Ready (world (whole c (now v) (now stack)) trail (now memory) (bytesOf (now rows)) (now history)) ⌝ }
-    ensures { λ r. ⌜ Gives
-        (rule.step keys random
+    ensures { λ r. ⌜ Made keys random
         (tickedBy ticks
         (world (whole c (now (v .entry)) (now (stack .entry))) trail (now (memory .entry)) (bytesOf (now (rows .entry)))
-        (now (history .entry))))) (r .outcome) (whole (r .core) (now (v .exit)) (now (stack .exit))) (r .trail)
-        (now (memory .exit)) (bytesOf (now (rows .exit))) (now (history .exit)) ⌝ }
-    ensures { λ r. ⌜ (r .dark ≡ stepDark
-        (tickedBy ticks
-        (world (whole c (now (v .entry)) (now (stack .entry))) trail (now (memory .entry)) (bytesOf (now (rows .entry)))
-        (now (history .entry))))) × (r .dark ≤ 120) × (r .copied ≡ stepCopied
-        (tickedBy ticks
-        (world (whole c (now (v .entry)) (now (stack .entry))) trail (now (memory .entry)) (bytesOf (now (rows .entry)))
-        (now (history .entry))))) × (r .copied ≤ 256) ⌝ }
+        (now (history .entry)))) r (now (v .exit)) (now (stack .exit)) (now (memory .exit)) (bytesOf (now (rows .exit))) (now (history .exit)) ⌝ }
 {
     let ticked = ticks_of(c, v, stack, trail, history, ticks);
     let core = ticked.core;

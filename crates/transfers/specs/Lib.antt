@@ -1,2 +1,3 @@
 -- What the contracts of this crate ask for.
 pub mod Within
+pub mod Other

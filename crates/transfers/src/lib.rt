@@ -10,7 +10,7 @@ ghost use Rattle.rules.specs.State.{memorySize, pictureSize, upTo, withI, withR
 ghost use Rattle.rules.specs.Registers.{onward};
 ghost use Rattle.rules.specs.Memory.{part, over, digitsOf};
 ghost use Rattle.rules.specs.Picture.{drawn, darkened};
-ghost use Rattle.rules.specs.Step.{rowsChange, litAfter, litRefusal, changeOf};
+ghost use Rattle.rules.specs.Step.{rowsChange, rowBytes, litAfter, litRefusal, changeOf};
 ghost use Rattle.rules.specs.Rows.{bytesOf};
 ghost use Rattle.parts.specs.Whole.{whole};
 ghost use Rattle.transfers.specs.Within.{Within};
@@ -36,7 +36,7 @@ pub fn row_of(v: &[u8; 16], y: u8) -> u8
 }
 
 // The whole rows that n pattern bytes reach, from a row on.
-fn rows_change(n: u8, row: u8) -> Change
+pub fn rows_change(n: u8, row: u8) -> Change
     requires { ⌜ row < 32 ⌝ }
     ensures { λ r. ⌜ r ≡ rowsChange n row ⌝ }
 {
@@ -97,10 +97,20 @@ pub fn clear(c: Core, rows: &mut [u64]) -> Core
     registers::light(registers::idle(registers::onward(c)), lit)
 }
 
-// DXYN. The drawing is given the pattern alone.
-pub fn draw(c: Core, v: &mut [u8; 16], x: u8, y: u8, pattern: &[u8], rows: &mut [u64]) -> Acted
-    requires { ⌜ (c .pc ≤ 4094) × (length (now rows) ≡ 32) × (length (now pattern) ≤ 256) × (litRefusal (c .lit) (bytesOf (now rows))
-        (drawn (now pattern) (getD (now v) (x % 16) 0 % 64) (getD (now v) (y % 16) 0 % 32) (bytesOf (now rows))) ≡ 0) ⌝ }
+// DXYN. The drawing is given the pattern alone, and a place for the rows as they were, from `at` on.
+pub fn draw(
+    c: Core,
+    v: &mut [u8; 16],
+    x: u8,
+    y: u8,
+    pattern: &[u8],
+    rows: &mut [u64],
+    place: &mut [u8],
+    at: usize,
+) -> Acted
+    requires { ⌜ (c .pc ≤ 4094) × (length (now rows) ≡ 32) × (length (now pattern) ≤ 16) × (litRefusal (c .lit) (bytesOf (now rows))
+        (drawn (now pattern) (getD (now v) (x % 16) 0 % 64) (getD (now v) (y % 16) 0 % 32) (bytesOf (now rows))) ≡ 0)
+        × (at + 128 ≤ length (now place)) ⌝ }
     ensures { λ r. ⌜ bytesOf (now (rows .exit)) ≡ drawn (now (pattern .entry)) (getD (now (v .entry)) (x % 16) 0 % 64)
         (getD (now (v .entry)) (y % 16) 0 % 32) (bytesOf (now (rows .entry))) ⌝ }
     ensures { λ r. ⌜
@@ -117,10 +127,14 @@ pub fn draw(c: Core, v: &mut [u8; 16], x: u8, y: u8, pattern: &[u8], rows: &mut 
         (bytesOf (now (rows .entry))))) 1 0) (whole c (now (v .entry)) stack))))) ⌝ }
     ensures { λ r. ⌜ (r .dark ≡ darkened (now (pattern .entry)) (getD (now (v .entry)) (x % 16) 0 % 64)
         (getD (now (v .entry)) (y % 16) 0 % 32) (bytesOf (now (rows .entry)))) × (r .dark ≤ 8 * length (now (pattern .entry))) ⌝ }
+    ensures { λ r. ⌜ now (place .exit) ≡ over (now (place .entry)) at
+        (part (bytesOf (now (rows .entry))) (8 * (getD (now (v .entry)) (y % 16) 0 % 32))
+        (rowBytes (length (now (pattern .entry))) (getD (now (v .entry)) (y % 16) 0 % 32)))
+        (rowBytes (length (now (pattern .entry))) (getD (now (v .entry)) (y % 16) 0 % 32)) ⌝ }
 {
     let column = (registers::get(v, x) % 64) as usize;
     let row = row_of(v, y) as usize;
-    let spots = picture::draw(rows, pattern, column, row);
+    let spots = picture::draw(rows, place, at, pattern, column, row);
     let lit = lit::counted(c.lit, spots);
     let dark = spots.dark;
     let flagged = registers::put(c, v, 0xF, registers::flag(0 < dark));

@@ -11,6 +11,7 @@ ghost use Rattle.rules.specs.Rows.{bytesOf};
 ghost use Rattle.rules.specs.Step as rule;
 ghost use Rattle.rules.specs.declared.Op.the-variants.{Draw};
 ghost use Rattle.parts.specs.Whole.{whole};
+ghost use Rattle.transfers.specs.Other.{Other};
 use parts::Core;
 use picture::Spots;
 use rules::Machine;
@@ -35,7 +36,7 @@ fn past(c: Core, n: usize) -> Outcome
 // Whether the number of lit spots stays in its range in a drawing. One that is further from both ends than the pattern has bits needs no
 // look; else what the drawing would turn over is counted, and nothing is written.
 fn late_drawing(lit: u16, v: &[u8; 16], x: u8, y: u8, pattern: &[u8], rows: &[u64]) -> Outcome
-    requires { ⌜ (lit ≤ spotCount) × (length (now rows) ≡ 32) × (length (now pattern) ≤ 256) ⌝ }
+    requires { ⌜ (lit ≤ spotCount) × (length (now rows) ≡ 32) × (length (now pattern) ≤ 16) ⌝ }
     ensures { λ r. ⌜ number r ≡ rule.litRefusal lit (bytesOf (now (rows .entry)))
         (drawn (now (pattern .entry)) (getD (now (v .entry)) (x % 16) 0 % 64) (getD (now (v .entry)) (y % 16) 0 % 32) (bytesOf (now (rows .entry)))) ⌝ }
 {
@@ -61,8 +62,8 @@ fn late_clearing(lit: u16, rows: &[u64]) -> Outcome
 }
 
 // DXYN: 6, then the late 10.
-fn drawable(c: Core, v: &[u8; 16], x: u8, y: u8, n: u8, memory: &[u8], rows: &[u64]) -> Outcome
-    requires { ⌜ (c .lit ≤ spotCount) × (c .end ≤ memorySize) × (length (now memory) ≡ memorySize) × (length (now rows) ≡ 32) ⌝ }
+pub fn drawable(c: Core, v: &[u8; 16], x: u8, y: u8, n: u8, memory: &[u8], rows: &[u64]) -> Outcome
+    requires { ⌜ (c .lit ≤ spotCount) × (c .end ≤ memorySize) × (length (now memory) ≡ memorySize) × (length (now rows) ≡ 32) × (n ≤ 15) ⌝ }
     ensures { λ r. ⌜ ((stack : List ℕ) → number r ≡ orLater (rule.past (whole c (now (v .entry)) stack) n)
         (rule.litRefusal (c .lit) (bytesOf (now (rows .entry)))
         (rule.pictureAfter (Draw x y n) (whole c (now (v .entry)) stack) (now (memory .entry)) (bytesOf (now (rows .entry)))))) ⌝ }
@@ -74,12 +75,13 @@ fn drawable(c: Core, v: &[u8; 16], x: u8, y: u8, n: u8, memory: &[u8], rows: &[u
     late_drawing(c.lit, v, x, y, transfers::pattern(c.i, n, memory), rows)
 }
 
-// 2 or 3, then 4, 5 or 6, and after them the late 10, of a number of lit spots that would leave its range.
-pub fn judged(op: Op, c: Core, v: &[u8; 16], memory: &[u8], rows: &[u64]) -> Outcome
-    requires { ⌜ (c .lit ≤ spotCount) × (c .end ≤ memorySize) × (length (now memory) ≡ memorySize) × (length (now rows) ≡ 32) ⌝ }
-    ensures { λ r. ⌜ ((stack : List ℕ) → number r ≡ orLater (rule.refusalOf op (whole c (now (v .entry)) stack))
+// What every other instruction needs, but for those that act on the state alone, which need nothing: 2 or 3, then 4, 5 or 6, and after
+// them the late 10, of a number of lit spots that would leave its range.
+pub fn judged(op: Op, c: Core, rows: &[u64]) -> Outcome
+    requires { ⌜ Other op × (c .lit ≤ spotCount) × (length (now rows) ≡ 32) ⌝ }
+    ensures { λ r. ⌜ ((v stack memory : List ℕ) → number r ≡ orLater (rule.refusalOf op (whole c v stack))
         (rule.litRefusal (c .lit) (bytesOf (now (rows .entry)))
-        (rule.pictureAfter op (whole c (now (v .entry)) stack) (now (memory .entry)) (bytesOf (now (rows .entry)))))) ⌝ }
+        (rule.pictureAfter op (whole c v stack) memory (bytesOf (now (rows .entry)))))) ⌝ }
 {
     match op {
         Op::Plain(_) => Outcome::Done,
@@ -97,7 +99,7 @@ pub fn judged(op: Op, c: Core, v: &[u8; 16], memory: &[u8], rows: &[u64]) -> Out
             Outcome::Refused(Refusal::StackEmpty)
         }
         Op::Clear => late_clearing(c.lit, rows),
-        Op::Draw(x, y, n) => drawable(c, v, x, y, n, memory, rows),
+        Op::Draw(_, _, _) => Outcome::Done,
         Op::Decimal(_) => past(c, 3),
         Op::Store(x) => past(c, registers::up_to(x)),
         Op::Fetch(x) => past(c, registers::up_to(x)),

@@ -1,14 +1,22 @@
--- Each way out is a law of the step: too far, judged and refused, or judged, kept and acted.
+-- Too far, or one of the three ways: the way is taken by which instruction it is.
 use mathlib.Core.Path.{_≡_, refl, _∙_, sym, ap}
+use mathlib.Core.List.{List, [], _∷_}
+use Prim.Native.Nat.{ℕ}
 use native.Mathlib.Omega.{arith}
+use denote.Enum.Declared.{tagOf}
+use types.Run.{OneOf, miss}
 use borrow.Author.Needs.{needs}
-use Rattle.rules.specs.Refusal.{number}
-use Rattle.rules.specs.World.{World, world}
+use Rattle.rules.proofs.Op.{the-type}
+use Rattle.rules.specs.declared.Op.{Op}
+use Rattle.rules.specs.declared.Op.the-variants.{Plain, AwaitKey, Call, Return, Clear, Draw, Decimal, Store, Fetch}
+use Rattle.rules.specs.declared.Op.the-variants.{Unlisted, MachineCode}
+use Rattle.rules.specs.World.{World, world, boardOf}
+use Rattle.rules.specs.Call.{opAt}
 use Rattle.rules.specs.Rows.{bytesOf}
-use Rattle.rules.proofs.Turning.{picture-rows}
 use Rattle.parts.specs.Whole.{whole}
-use Rattle.moves.proofs.OneStep.{far, far-dark, far-copied, judged-refused, judged-dark, judged-copied}
-use Rattle.moves.proofs.OneStep.{tickable, place-inside, step-reaches, step-kept, accepted, step-gives, step-dark, step-copied, copied-few, few-bytes}
+use Rattle.transfers.specs.Other.{Other}
+use Rattle.moves.specs.Steps.{Reached}
+use Rattle.moves.proofs.OneStep.{far, far-dark, far-copied, back}
 use Rattle.moves.proofs.step.Statement.{statement}
 use Rattle.moves.proofs.step.Tie as tie
 
@@ -22,93 +30,55 @@ sub-if1 c = let s = c .before .before .before .before .before in omega (arith, s
 
 returns : tie.Need-returns
 returns c =
-    let s = c .before .before .before .before .before .before in
-    let past = c .if1 .taken in
-    (far (given s) (s .pre) past _ _, (sym (far-dark (given s) (s .pre) past), omega arith, sym (far-copied (given s) (s .pre) past), omega arith))
+    let past = c .before .if1 .taken in
+    let s = c .before .before .before .before .before .before .before in
+    let a = s .args in
+    let w = given s in
+    rw (c .refused .ensures)
+    (back (a .keys) (a .random) (a .c) (a .v .now) (a .stack .now) (a .trail) (a .memory .now) (bytesOf (a .rows .now)) (a .history .now) _
+    (far w (s .pre) past _ _) (far-dark w (s .pre) past) (far-copied w (s .pre) past))
 
-returns-2 : tie.Need-returns-2
-returns-2 c =
-    let judged = c .before .before in
-    let decoded = judged .before .before .before .before in
-    let s = decoded .before .before .before .before .before .before .before .before .before in
-    let refused = c .enum-told2 .given .1 in
-    let says = rw refused at (judged .judged .ensures (s .args .stack .now)) in
-    let op = decoded .decode .ensures in
-    let near = decoded .before .before .before .if1 .left in
-    let r = c .enum-told2 .given .0 .0 in (
-      rw refused (judged-refused (given s) (s .pre) _ _ op near says _ _),
-      (sym (judged-dark (given s) (s .pre) _ r op near says), omega arith, sym (judged-copied (given s) (s .pre) _ r op near says), omega arith),
-    )
-
-judged-requires : tie.Need-judged-requires
-judged-requires c κs =
-    let s = c .before .before .before .before .before .before .before .before .before .before .before .before in
-    (s .pre .good .machine .lit, s .pre .good .machine .end .most, s .pre .good .memory .size, picture-rows (s .args .rows .now) (s .pre .good .picture .size))
-
-keep-requires : tie.Need-keep-requires
-keep-requires c κs = let s = c .before .before .before .before .before .before .before .before .before .before .before .before .before .before .before .before .before .before .before .before .before .before in (place-inside (given s) (s .pre), s .pre .good .machine .calls .most)
-
-keep-old-requires : tie.Need-keep-old-requires
-keep-old-requires c κs =
-    let changed = c .before .before .before .before .before .before .before .before .before in
-    let told = changed .before .before .before .before in
-    let judged = told .before .before in
-    let decoded = judged .before .before .before .before in
-    let near = decoded .before .before .before in
+-- the instruction is known
+reached : (c : tie.After-decode) (op : Op) → c .decode .result ≡ op → let s = c .before .before .before .before .before .before .before .before .before in Reached op (given s)
+reached c op is =
+    let near = c .before .before .before in
     let s = near .before .before .before .before .before .before in
-    let allowed = sym (judged .judged .ensures (s .args .stack .now)) ∙ ap number (told .enum-told .given .1) in
-    let rows = picture-rows (s .args .rows .now) (s .pre .good .picture .size) in (
-      omega (arith, place-inside (given s) (s .pre), c .before .before .before .before .history .given),
-      rw (changed .change-of .ensures (s .args .stack .now)) (step-reaches (given s) (s .pre) _ (decoded .decode .ensures) (near .if1 .left) allowed (s .args .rows .now) rows),
-    )
+    record { ready = s .pre; near = near .if1 .left; there = sym is ∙ c .decode .ensures }
 
-act-requires : tie.Need-act-requires
-act-requires c κs =
-    let told = c .before .before .before .before .before .before .before .before .before .before .before .before .before .before .before .before .before .before .before .before in
-    let judged = told .before .before in
-    let decoded = judged .before .before .before .before in
-    let near = decoded .before .before .before in
-    let s = near .before .before .before .before .before .before in
-    let allowed = sym (judged .judged .ensures (s .args .stack .now)) ∙ ap number (told .enum-told .given .1) in
-    let rows = picture-rows (s .args .rows .now) (s .pre .good .picture .size) in
-    accepted (given s) (s .pre) _ (decoded .decode .ensures) (near .if1 .left) allowed (s .args .rows .now) refl rows
+plain-step-requires : tie.Need-plain-step-requires
+plain-step-requires c κs =
+    let known = c .before .before .before .before .before .before in
+    reached (known .before .before) _ (known .op .given .1)
 
-grown-requires : tie.Need-grown-requires
-grown-requires c κs =
-    let placed = c .before .before .before .before .before .before .before .before .before .before .before .before .before .before .before .before .before .before .before .before .before .before .before .before in
-    let s = placed .before .before .before .before .before .before .before .before .before .before .before .before .before .before .before .before .before in
-    rw (placed .places .ensures) ((tickable (given s) (s .pre)) .range)
+drawing-step-requires : tie.Need-drawing-step-requires
+drawing-step-requires c κs =
+    let known = c .before .before .before .before .before .before in
+    reached (known .before .before .before) _ (known .op2 .given .1)
 
-returns-3 : tie.Need-returns-3
-returns-3 c =
-    let acted = c .before .before .before .before .before .before .before in
-    let laid = acted .before .before .before .before .before .before .before in
-    let kept = laid .before .before .before .before .before .before in
-    let changed = kept .before .before .before .before in
-    let placed = changed .before .before in
-    let told = placed .before .before in
-    let judged = told .before .before in
-    let decoded = judged .before .before .before .before in
-    let near = decoded .before .before .before in
-    let s = near .before .before .before .before .before .before in
-    let change = changed .change-of .ensures (s .args .stack .now) in
-    let op = decoded .decode .ensures in
-    let allowed = sym (judged .judged .ensures (s .args .stack .now)) ∙ ap number (told .enum-told .given .1) in
-    let rows = picture-rows (s .args .rows .now) (s .pre .good .picture .size) in
-    let written = step-kept (given s) (s .pre) _ op (near .if1 .left) allowed (s .args .rows .now) _ _ _ rows (rw change at (kept .keep .ensures)) (rw change at (laid .keep-old .ensures)) in
-    let copied = rw change at (c .count-of .ensures) in
-    let act = acted .act .ensures in (
-      step-gives (given s) (s .pre) _ op (near .if1 .left) allowed _ _ _ _ _ _ _
-          (act .0) (rw (placed .places .ensures) at (c .before .grown .ensures)) written,
-      (
-        act .1 .0 ∙ sym (step-dark (given s) (s .pre) _ op (near .if1 .left) allowed),
-        omega (arith, act .1 .1, few-bytes (given s) (s .pre) _ op (near .if1 .left) allowed),
-        copied ∙ sym (step-copied (given s) (s .pre) _ op (near .if1 .left) allowed),
-        omega (arith, copied, copied-few (given s) (s .pre) _ op (near .if1 .left) allowed),
-      ),
-    )
+-- neither of the two
+other : (op : Op) → OneOf (1 ∷ 2 ∷ 3 ∷ 4 ∷ 5 ∷ 6 ∷ 7 ∷ 8 ∷ 9 ∷ 10 ∷ []) (tagOf the-type op)
+    → OneOf (0 ∷ 1 ∷ 2 ∷ 3 ∷ 4 ∷ 6 ∷ 7 ∷ 8 ∷ 9 ∷ 10 ∷ []) (tagOf the-type op) → Other op
+other (Plain s) p d = absurd (miss (1 ∷ 2 ∷ 3 ∷ 4 ∷ 5 ∷ 6 ∷ 7 ∷ 8 ∷ 9 ∷ 10 ∷ []) 0 tt p)
+other (AwaitKey x) p d = tt
+other (Call a) p d = tt
+other Return p d = tt
+other Clear p d = tt
+other (Draw x y n) p d = absurd (miss (0 ∷ 1 ∷ 2 ∷ 3 ∷ 4 ∷ 6 ∷ 7 ∷ 8 ∷ 9 ∷ 10 ∷ []) 5 tt d)
+other (Decimal x) p d = tt
+other (Store x) p d = tt
+other (Fetch x) p d = tt
+other Unlisted p d = tt
+other MachineCode p d = tt
+
+other-step-requires : tie.Need-other-step-requires
+other-step-requires c κs =
+    let left = c .before .before .before .before .before in
+    let decoded = left .before .before in
+    (other (decoded .decode .result) (left .before .match .keys2) (left .match2 .keys2), reached decoded (decoded .decode .result) refl)
 
 pub step-spec : {M : Type 1} → statement M
 step-spec =
-    tie.close (tie.spec (search needs) (search needs) sub-if1 returns (search needs) (search needs) (search needs) (search needs) judged-requires (search needs) (search needs) (search needs) (search needs) returns-2
-    (search needs) (search needs) keep-requires keep-old-requires act-requires grown-requires (λ c κs. tt) (λ c. omega arith) (λ c. omega arith) (λ c. omega arith) (λ c. omega arith) returns-3)
+    tie.close (tie.spec (search needs) (search needs) sub-if1 (search needs) returns (search needs) (search needs) (search needs) (search needs) (search needs)
+    plain-step-requires (search needs) (search needs) (search needs) (λ c. c .before .before .plain-step .ensures)
+    (search needs) drawing-step-requires (search needs) (search needs) (search needs) (λ c. c .before .before .before .before .drawing-step .ensures)
+    other-step-requires (search needs) (search needs) (search needs) (λ c. c .before .before .before .before .before .before .other-step .ensures))

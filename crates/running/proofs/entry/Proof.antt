@@ -28,7 +28,7 @@ returns c =
     let ticks = c .before .before .before .before .before .before .before .before .before .before .before .before .before .before .before .before .ticks-of .ensures (s .args .memory .now) (bytesOf (s .args .rows .now)) in
     let there = gives-world _ _ _ _ _ _ _ ticks in
     let stepped = c .before .before .before .before .before .before .step .ensures in
-    (rw there at (stepped .0), (rw there at (stepped .1 .0), stepped .1 .1, rw there at (stepped .1 .2), stepped .1 .3))
+    rw there at stepped
 
 pub entry-spec : {M : Type 1} → statement M
 entry-spec = tie.close (tie.spec ticks-of-requires step-requires (λ c. omega arith) (λ c. omega arith) (λ c. omega arith) returns)

@@ -47,7 +47,7 @@ returns c =
     let refused = c .before .enum-told2 .given .1 in
     let inv = c .before .before .before .before .before .before .before .before .before .before .before .before .before .before .before .before .before .before .before .before .before .loop .inv .3 in
     let more = c .before .before .before .before .before .before .before .before .before .before .before .before .before .before .before .before .before .before .before .before .loop-test .taken in
-    let entry = rw refused at (c .before .before .before .before .before .before .before .before .before .before .before .entry .ensures .0) in
+    let entry = rw refused at (c .before .before .before .before .before .before .before .before .before .before .before .entry .ensures .gives) in
     let totals = stopped-totals _ _ _ _ _ _ _ _ inv more _ _ _ _ _ _ entry in
     rw (c .ran .ensures, refused, ← c .before .before .before .before .before .before .before .before .before .before .before .before .before .before .before .before .before .before .before .before .before .before .core-of .ensures) (
       stopped _ _ _ _ _ _ _ _ inv more _ _ _ _ _ _ entry,
@@ -60,7 +60,7 @@ loop-again c =
       memory-length (c .before .before .before .before .before .before .before .before .before .before .before .before),
       rows-length (c .before .before .before .before .before .before .before .before .before .before .before .before),
       history-length (c .before .before .before .before .before .before .before .before .before .before .before .before),
-      went-on _ _ _ _ _ _ _ _ (c .before .before .before .before .before .before .before .before .before .before .before .before .before .before .before .before .before .before .before .before .before .before .loop .inv .3) (c .before .before .before .before .before .before .before .before .before .before .before .before .before .before .before .before .before .before .before .before .before .loop-test .taken) _ _ _ _ _ _ _ (rw (c .before .before .enum-told .given .1) at (entry .0)) (entry .1 .0) (entry .1 .1) (entry .1 .2) (entry .1 .3),
+      went-on _ _ _ _ _ _ _ _ (c .before .before .before .before .before .before .before .before .before .before .before .before .before .before .before .before .before .before .before .before .before .before .loop .inv .3) (c .before .before .before .before .before .before .before .before .before .before .before .before .before .before .before .before .before .before .before .before .before .loop-test .taken) _ _ _ _ _ _ _ (rw (c .before .before .enum-told .given .1) at (entry .gives)) (entry .dark) (entry .dark-few) (entry .copied) (entry .copied-few),
     )
 
 returns-2 : tie.Need-returns-2 Inv-loop μ-loop
@@ -75,7 +75,7 @@ run-ready-spec =
     tie.close (tie.spec Inv-loop μ-loop
     (λ c κs. tt) loop-holds (λ c. omega arith) (λ c. omega arith) shared-slice-read-entry-2 shared-slice-read-entry-3 (λ c κs. c .before .before .before .before .before .before .before .before .before .loop .inv .3 .ready)
     (search needs) (search needs) (λ c κs. tt) (λ c. memory-length (c .before .before .before .before .before .before .before .before .before .before .before)) (λ c. rows-length (c .before .before .before .before .before .before .before .before .before .before .before)) (λ c. history-length (c .before .before .before .before .before .before .before .before .before .before .before)) returns
-    (λ c. let inv = c .before .before .before .before .before .before .before .before .before .before .before .before .before .before .before .before .before .before .before .before .before .loop .inv .3 in omega (arith, inv .spots .few, inv .inside, inv .lists .few, c .before .before .before .before .before .before .before .before .before .before .before .entry .ensures .1 .1))
-    (λ c. let inv = c .before .before .before .before .before .before .before .before .before .before .before .before .before .before .before .before .before .before .before .before .before .before .loop .inv .3 in omega (arith, inv .bytes .few, inv .inside, inv .lists .few, c .before .before .before .before .before .before .before .before .before .before .before .before .entry .ensures .1 .3))
+    (λ c. let inv = c .before .before .before .before .before .before .before .before .before .before .before .before .before .before .before .before .before .before .before .before .before .loop .inv .3 in omega (arith, inv .spots .few, inv .inside, inv .lists .few, c .before .before .before .before .before .before .before .before .before .before .before .entry .ensures .dark-few))
+    (λ c. let inv = c .before .before .before .before .before .before .before .before .before .before .before .before .before .before .before .before .before .before .before .before .before .before .loop .inv .3 in omega (arith, inv .bytes .few, inv .inside, inv .lists .few, c .before .before .before .before .before .before .before .before .before .before .before .before .entry .ensures .copied-few))
     (λ c. let inv = c .before .before .before .before .before .before .before .before .before .before .before .before .before .before .before .before .before .before .before .before .before .before .loop .inv .3 in omega (arith, inv .inside, inv .lists .few)) (λ c. omega (arith, c .before .before .before .before .before .before .before .before .before .before .before .before .before .before .before .before .before .before .before .before .before .loop-test .taken)) loop-again
     (λ c κs. tt) (λ c. c .before .before .loop .inv .0) (λ c. c .before .before .loop .inv .1) (λ c. c .before .before .loop .inv .2) returns-2)

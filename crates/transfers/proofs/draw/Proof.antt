@@ -14,11 +14,12 @@ use Rattle.transfers.proofs.draw.Tie as tie
 
 counted-requires : tie.Need-counted-requires
 counted-requires c κs =
-    let drawing = c .before .before in
-    let row = drawing .before .before .row-of .ensures .0 in
-    let column = drawing .before .before .before .before .get .ensures in
-    let s = drawing .before .before .before .before .before .before .before .before in
-    let turned = drawing .draw .ensures .1 in
+    let drawing = c .before .before .before .before in
+    let placed = drawing .before .before .before in
+    let row = placed .row-of .ensures .0 in
+    let column = placed .before .before .get .ensures in
+    let s = placed .before .before .before .before .before .before .before in
+    let turned = drawing .draw .ensures .1 .1 in
     let passes = rw (← row, ← column) at (s .pre .3) in
     let balance = drawn-balance _ (s .args .pattern .now) _ _ (bytesOf (s .args .rows .now)) (turned .dark) (turned .lit) in
     let (low, high) = in-range (s .args .c .lit) _ (bytesOf (s .args .rows .now)) _ balance passes in
@@ -27,11 +28,12 @@ counted-requires c κs =
 returns : tie.Need-returns
 returns c =
     let counted = c .before .before .before .before .before in
-    let drawing = counted .before .before .before in
-    let row = drawing .before .before .row-of .ensures .0 in
-    let column = drawing .before .before .before .before .get .ensures in
-    let s = drawing .before .before .before .before .before .before .before .before in
-    let turned = drawing .draw .ensures .1 in
+    let drawing = counted .before .before .before .before .before in
+    let placed = drawing .before .before .before in
+    let row = placed .row-of .ensures .0 in
+    let column = placed .before .before .get .ensures in
+    let s = placed .before .before .before .before .before .before .before in
+    let turned = drawing .draw .ensures .1 .1 in
     let balance = drawn-balance _ (s .args .pattern .now) _ _ (bytesOf (s .args .rows .now)) (turned .dark) (turned .lit) in
     let number = counted .counted .ensures _ _ balance in (
       rw (← row, ← column) (drawing .draw .ensures .0),
@@ -40,9 +42,9 @@ returns c =
             c .light .ensures _ stack
             ∙ ap (withLit (counted .counted .result)) (c .before .idle .ensures _ stack ∙ ap (withWait Idle) (c .before .before .put .ensures stack))
             ∙ rw (c .before .before .before .flag .ensures, turned .dark, number, row, column),
-        (rw (← row, ← column) (turned .dark), omega (arith, turned .few)),
+        ((rw (← row, ← column) (turned .dark), omega (arith, turned .few)), rw (← row) (drawing .draw .ensures .1 .0)),
       ),
     )
 
 pub draw-spec : {M : Type 1} → statement M
-draw-spec = tie.close (tie.spec (search needs) (search needs) (search needs) (search needs) (search needs) counted-requires (search needs) (search needs) (search needs) (search needs) (search needs) returns)
+draw-spec = tie.close (tie.spec (search needs) (search needs) (search needs) (search needs) (search needs) counted-requires (search needs) (search needs) (search needs) (search needs) (search needs) (search needs) returns)

@@ -29,7 +29,7 @@ pattern-requires c κs =
 late-drawing-requires : tie.Need-late-drawing-requires
 late-drawing-requires c κs =
     let s = c .before .before .before .before .before .before in
-    (s .pre .0, s .pre .3, rw (c .pattern .ensures) (simp length-take (omega arith)))
+    (s .pre .0, s .pre .3, rw (c .pattern .ensures) (simp length-take (omega (arith, s .pre .4))))
 
 returns-2 : tie.Need-returns-2
 unfolding after
