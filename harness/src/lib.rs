@@ -12,6 +12,7 @@ pub mod guard;
 pub mod page;
 pub mod plain_list;
 pub mod random;
+pub mod recording;
 pub mod rows;
 pub mod second;
 pub mod shrink;

@@ -1,0 +1,239 @@
+// What a person does at a dock, whatever it is shown on: load, step, back, forward, drag, run, break, save and open.
+// The fronts draw what stands here and add nothing to it.
+
+import { FULL_END, LIST_MOST, Machine } from "./machine.js";
+import { fileOf, isCardFile, partsIn } from "./card-file.js";
+import { digitsAt, hex, instruction, REFUSALS } from "./words.js";
+
+const DAMAGED = 11;
+export const EDITIONS = ["first", "second"];
+
+const randomByte = () => Math.floor(256 * Math.random());
+
+export class Dock {
+    constructor(card) {
+        this.machine = new Machine(card);
+        /** The machine before the last action: where the two differ, the action changed something. */
+        this.before = new Machine(card);
+        /** A copy to try things out on. */
+        this.trial = new Machine(card);
+        this.name = "";
+        this.program = undefined;
+        this.running = false;
+        this.stepsAFrame = 10;
+        this.breakAt = undefined;
+        this.say("");
+    }
+
+    /** What is to be said to the person. */
+    say(text) {
+        this.said = { text, refused: false };
+    }
+
+    /** Says what was asked, why the card refused it, and that it left everything. */
+    refuse(asked, number, where = "") {
+        this.said = { text: `${asked}: refused with ${number}, ${REFUSALS[number]}${where}. Nothing was changed.`, refused: true, number };
+    }
+
+    /** Says why a file was not opened. */
+    refuseFile(name, why) {
+        this.said = { text: `${name} was not opened: ${why}. Nothing was changed.`, refused: true };
+    }
+
+    /** The instruction at PC: its four digits, and what it does. */
+    get instruction() {
+        const { pc, edition } = this.machine;
+        const digits = digitsAt(this.machine, pc);
+        return digits === undefined ? { digits: "", does: "past the end of memory" } : { digits, does: instruction(digits, edition) };
+    }
+
+    /** Where a refused step stood, for the sentence about it. */
+    get where() {
+        return ` (${this.instruction.digits || "nothing"} at ${hex(this.machine.pc, 4)})`;
+    }
+
+    // ---- load
+
+    /** Loads a program. One that is refused leaves the machine as it was. */
+    load(name, program, edition, end = FULL_END) {
+        const refusal = this.machine.load(program, edition, end);
+        if (refusal !== 0) {
+            const size = program.length === 0 ? "the file is empty" : `the file has ${program.length.toLocaleString("en")} bytes`;
+            this.refuse(`Load ${name}`, refusal, `, and ${size}`);
+            return false;
+        }
+        Object.assign(this, { name, program, running: false });
+        this.before.copy(this.machine);
+        this.say(`${name} is loaded, for the ${EDITIONS[edition]} edition${end === FULL_END ? "" : " and the 2K profile"}.`);
+        return true;
+    }
+
+    // ---- single actions
+
+    /** Makes one action by hand. What stood before it is kept, to show what it changed. */
+    act(asked, action) {
+        this.running = false;
+        this.before.copy(this.machine);
+        const refusal = action();
+        if (refusal !== 0) this.refuse(asked, refusal, asked === "Step" ? this.where : "");
+        else this.say("");
+        return refusal === 0;
+    }
+    step(keys) {
+        return this.act("Step", () => this.machine.step(keys, randomByte()));
+    }
+    tick() {
+        return this.act("Tick", () => this.machine.tick());
+    }
+    back() {
+        return this.act("Back", () => this.machine.back());
+    }
+    forward() {
+        return this.act("Forward", () => this.machine.forward());
+    }
+
+    /** Goes along the timeline to where `kept` actions are kept, by backs and forwards and nothing else. */
+    seek(kept) {
+        this.running = false;
+        const { machine } = this;
+        while (machine.kept > kept) if (!this.back()) return;
+        while (machine.kept < kept) if (!this.forward()) return;
+    }
+
+    // ---- run
+
+    /** A run that is begun where the break is goes on past it. */
+    start() {
+        this.running = true;
+        this.passBreak = true;
+        this.say("");
+    }
+
+    pause() {
+        this.running = false;
+        this.markLast();
+    }
+
+    /** One frame of a run: a tick, and then the steps. */
+    frame(keys) {
+        const refusal = this.breakAt === undefined ? this.runFreely(keys) : this.runToBreak(keys);
+        if (refusal === 0) return;
+        this.pause();
+        this.refuse("Step", refusal, this.where);
+    }
+
+    runFreely(keys) {
+        const randoms = Uint8Array.from({ length: Math.min(this.stepsAFrame, LIST_MOST) }, randomByte);
+        return this.machine.run(1, keys, randoms);
+    }
+
+    runToBreak(keys) {
+        let refusal = this.machine.tick();
+        for (let n = 0; n < this.stepsAFrame && refusal === 0; n++) {
+            if (this.machine.pc === this.breakAt && !this.passBreak) {
+                this.pause();
+                this.say(`The break at ${hex(this.breakAt, 4)} is reached.`);
+                return 0;
+            }
+            this.passBreak = false;
+            refusal = this.machine.step(keys, randomByte());
+        }
+        return refusal;
+    }
+
+    /** After a run: what stood before its last action is found by a back, on a copy. */
+    markLast() {
+        this.before.copy(this.machine);
+        this.before.back();
+    }
+
+    // ---- the card's file
+
+    save() {
+        return fileOf(this.machine);
+    }
+
+    /**
+     * Looks at a file before anything is changed. It is a program, or a card's file, and then perhaps with a worn history:
+     * `salvage` says what a salvage would keep and clear. A file that cannot be opened is an error that says why.
+     */
+    look(bytes) {
+        if (!isCardFile(bytes)) return { program: bytes };
+        const parts = partsIn(bytes);
+        this.trial.put(parts);
+        const refusal = this.trial.salvage();
+        if (refusal !== 0) throw new Error(`it holds ${REFUSALS[refusal]} (${refusal})`);
+        const { salvaged } = this.trial;
+        this.trial.put(parts);
+        const salvage = { ...salvaged, of: this.trial.kept };
+        return { parts, salvage: this.isWorn(salvage.keeps) ? salvage : undefined };
+    }
+
+    /** Whether a record of the trial is worn: a salvage keeps fewer, or what is ahead cannot be made again as it was. */
+    isWorn(keeps) {
+        const { trial } = this;
+        if (keeps < trial.kept) return true;
+        const history = trial.history.slice();
+        while (trial.ahead > 0) if (trial.forward() !== 0) return true;
+        return history.some((byte, n) => byte !== trial.history[n]);
+    }
+
+    /** Takes the machine out of a card's file that was looked at. */
+    open(name, parts) {
+        this.machine.put(parts);
+        this.before.copy(this.machine);
+        Object.assign(this, { name, program: undefined, running: false });
+        this.say(`${name} is open, with ${this.machine.kept} actions kept and ${this.machine.ahead} ahead.`);
+    }
+
+    /** Whether the last refusal was of a damaged record, so that a salvage helps. */
+    get isDamaged() {
+        return this.said.number === DAMAGED;
+    }
+
+    /** What a salvage of the machine would do; it is made on a copy. */
+    get salvageOffer() {
+        this.trial.copy(this.machine);
+        this.trial.salvage();
+        return { ...this.trial.salvaged, of: this.machine.kept };
+    }
+
+    salvage() {
+        if (this.act("Salvage", () => this.machine.salvage())) this.say(`Salvaged: ${this.machine.kept} records are kept.`);
+    }
+}
+
+/** Sixty frames a second, however often the front is drawn. One that was away does not catch up. */
+export class Pace {
+    constructor(now) {
+        this.at = now;
+    }
+
+    /** How many frames are due now. */
+    due(now) {
+        const frames = Math.round(((now - this.at) * 60) / 1000);
+        this.at = frames > 4 ? now : this.at + (frames * 1000) / 60;
+        return Math.min(frames, 4);
+    }
+}
+
+/** What a salvage would do, in lines: what would be kept, and the places that would be cleared, row by row. */
+export function salvageInWords({ keeps, of, cleared }) {
+    const lines = [`Of ${of} kept records the newest ${keeps} are sound and would stay.`];
+    for (const was of ["kept", "ahead", "free"]) {
+        const places = cleared.filter((entry) => entry.was === was).map((entry) => entry.place);
+        if (places.length > 0) lines.push(`Cleared would be ${places.length} that count as ${was}: ${inRows(places)}.`);
+    }
+    return lines;
+}
+
+/** Numbers that follow one another are said as one row. */
+function inRows(numbers) {
+    const rows = [];
+    for (const number of numbers) {
+        const row = rows.at(-1);
+        if (row && row[1] === number - 1) row[1] = number;
+        else rows.push([number, number]);
+    }
+    return rows.map(([first, last]) => (first === last ? `${first}` : `${first} to ${last}`)).join(", ");
+}

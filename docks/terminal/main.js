@@ -1,0 +1,248 @@
+// The dock in a terminal: ./dock FILE. It needs node and no package.
+//
+//   node main.js CARD.WASM EDITION END FILE
+
+import { readFileSync, writeFileSync } from "node:fs";
+import { basename } from "node:path";
+import { emitKeypressEvents } from "node:readline";
+import { Card } from "../machine.js";
+import { Dock, Pace, salvageInWords } from "../dock.js";
+import { TerminalKeys } from "./keys.js";
+import { COLUMNS, LINES, screen, STYLES, wrap } from "./screen.js";
+
+const HELP = `
+  Space        run, or pause
+  Enter        step, with the keys that are down
+  ← →          back; forward, which makes it again as it was
+  Home End     to the start, to the end of the timeline
+  T            a tick of the clock; a run makes 60 a second
+  B            a break at an address
+  + -          more or fewer steps a frame
+  P            the page of variables on the glass
+  L            load the program again
+  K            keep: save the whole machine as a card's file
+  O            open a program or a card's file
+  Ctrl-C       quit
+
+  The card's keys are 1234, QWER, ASDF and ZXCV. While the
+  program stands, a press holds a key, and the next frees it.`.split("\n").slice(1);
+
+/** Why a file cannot be read, by the system's word for it. */
+const WHY = { ENOENT: "there is no such file", EISDIR: "it is a folder", EACCES: "it cannot be read" };
+
+const SPEEDS = [1, 3, 10, 30, 100, 300, 1000];
+/** More than the largest file that could be meant; no more of it is looked at. */
+const READ_MOST = 100_000;
+
+class Terminal {
+    constructor(card, edition, end) {
+        this.dock = new Dock(card);
+        /** How programs are loaded. */
+        this.chosen = [edition, end];
+        this.keys = new TerminalKeys();
+        this.view = { style: process.env.NO_COLOR ? STYLES.plain : STYLES.colours, variables: false };
+    }
+
+    // ---- files
+
+    /** Opens a file, or asks first, or says why not. */
+    open(name) {
+        try {
+            const { program, parts, salvage } = this.dock.look(readFileSync(name).subarray(0, READ_MOST));
+            if (program) this.dock.load(basename(name), program, ...this.chosen);
+            else if (salvage) this.askBefore(name, parts, salvage);
+            else this.dock.open(basename(name), parts);
+        } catch (error) {
+            this.dock.refuseFile(name, WHY[error.code] ?? error.message);
+        }
+    }
+
+    /** Asks whether the worn history of a file is to be salvaged, before anything is changed. */
+    askBefore(name, parts, salvage) {
+        this.ask(salvage, ["S  salvage it: the file changes only where you save it", "A  open it as it is"], (key) => {
+            if (key !== "s" && key !== "a") {
+                this.dock.refuseFile(name, "you left it");
+                // Where nothing was open before, there is nothing to go on with.
+                return this.dock.name === "" && leave();
+            }
+            this.dock.open(basename(name), parts);
+            if (key === "s") this.dock.salvage();
+        });
+    }
+
+    /** Asks the same of the machine that is open, where a record turned out to be damaged. */
+    askNow() {
+        this.ask(this.dock.salvageOffer, ["S  salvage it"], (key) => key === "s" && this.dock.salvage());
+    }
+
+    ask(salvage, choices, answer) {
+        const lines = salvageInWords(salvage).flatMap((line) => wrap(line, 62));
+        this.view.text = ["The history is worn.", "", ...lines, "", ...choices, "Any other key leaves it."];
+        this.answer = answer;
+    }
+
+    save(name) {
+        try {
+            // A file that stands there already is not written over.
+            writeFileSync(name, this.dock.save(), { flag: "wx" });
+            this.dock.say(`The card was saved as ${name}.`);
+        } catch (error) {
+            this.dock.say(`The card was not saved: ${error.code === "EEXIST" ? `${name} is there already` : error.message}.`);
+        }
+    }
+
+    // ---- what a key does
+
+    get commands() {
+        const { dock } = this;
+        const { machine } = dock;
+        return {
+            space: () => this.runOrPause(),
+            return: () => dock.step(this.keys.bits),
+            left: () => dock.back(),
+            right: () => dock.forward(),
+            home: () => dock.seek(0),
+            end: () => dock.seek(machine.kept + machine.ahead),
+            t: () => dock.tick(),
+            b: () => this.type("Break at (in hex; nothing for none): ", (text) => this.breakAt(text)),
+            "+": () => this.faster(1),
+            "-": () => this.faster(-1),
+            p: () => (this.view.variables = !this.view.variables),
+            l: () => dock.program && dock.load(dock.name, dock.program, ...this.chosen),
+            k: () => this.type("Save the card as: ", (name) => name && this.save(name)),
+            o: () => this.type("Open: ", (name) => name && this.open(name)),
+            y: () => dock.isDamaged && this.askNow(),
+            "?": () => this.show(HELP),
+        };
+    }
+
+    /** Shows a text in the glass's place until the next key. */
+    show(text) {
+        this.dock.running && this.dock.pause();
+        this.view.text = text;
+        this.answer = () => {};
+    }
+
+    breakAt(text) {
+        if (text !== "" && !/^[0-9a-f]{1,4}$/i.test(text)) return this.dock.say(`${text} is no address.`);
+        this.dock.breakAt = text === "" ? undefined : parseInt(text, 16);
+    }
+
+    faster(by) {
+        const at = SPEEDS.indexOf(this.dock.stepsAFrame) + by;
+        this.dock.stepsAFrame = SPEEDS[Math.max(0, Math.min(at, SPEEDS.length - 1))];
+        this.dock.say(`${this.dock.stepsAFrame} steps a frame.`);
+    }
+
+    runOrPause() {
+        if (this.dock.running) return this.dock.pause();
+        this.dock.start();
+        const pace = new Pace(performance.now());
+        const timer = setInterval(() => {
+            for (let due = pace.due(performance.now()); due > 0 && this.dock.running; due--) {
+                this.dock.frame(this.keys.bits);
+                this.keys.pass();
+            }
+            if (!this.dock.running) clearInterval(timer);
+            this.draw();
+        }, 1000 / 30);
+    }
+
+    /** Lets a person type a line, and hands it on. */
+    type(question, done) {
+        this.dock.running && this.dock.pause();
+        this.typed = { question, text: "", done };
+    }
+
+    typeOn(letter, key) {
+        const { typed } = this;
+        if (key.name === "return") {
+            this.typed = undefined;
+            typed.done(typed.text.trim());
+        } else if (key.name === "escape") this.typed = undefined;
+        else if (key.name === "backspace") typed.text = typed.text.slice(0, -1);
+        else if (letter >= " ") typed.text += letter;
+    }
+
+    press(letter, key) {
+        if (key.ctrl && (key.name === "c" || key.name === "q")) return leave();
+        if (this.typed) this.typeOn(letter, key);
+        else if (this.answer) {
+            const { answer } = this;
+            this.answer = this.view.text = undefined;
+            answer(letter?.toLowerCase());
+        } else {
+            const pressed = this.keys.keyOf(letter);
+            if (pressed !== undefined) this.keys.press(pressed, this.dock.running);
+            else (this.commands[key.name] ?? this.commands[letter])?.();
+        }
+        this.draw();
+    }
+
+    // ---- drawing
+
+    draw() {
+        const { columns, rows } = process.stdout;
+        this.view.down = this.keys.down;
+        this.view.typing = this.typed && `${this.typed.question}${this.typed.text}▏`;
+        const tooSmall =
+            `The dock needs ${COLUMNS} columns and ${LINES} lines; this terminal has ${columns} and ${rows}. ` +
+            "Make it larger, or press Ctrl-C.";
+        const fits = columns >= COLUMNS && rows >= LINES;
+        const lines = fits ? screen(this.dock, this.view, rows) : wrap(tooSmall, columns);
+        process.stdout.write(`\x1b[H${lines.map((line) => `${line}\x1b[K`).join("\r\n")}\x1b[J`);
+    }
+}
+
+// ---- the terminal itself
+
+/** A clear word, and the end. */
+function refuse(why) {
+    process.stderr.write(`dock: ${why}\n`);
+    process.exit(2);
+}
+
+/** Gives the terminal back as it was. */
+function leave() {
+    process.stdin.setRawMode(false);
+    process.stdout.write("\x1b[?25h\x1b[?1049l");
+    process.exit(0);
+}
+
+function enter(terminal) {
+    // The other screen, so that what stood in the terminal is there again afterwards; and no cursor.
+    process.stdout.write("\x1b[?1049h\x1b[?25l");
+    emitKeypressEvents(process.stdin);
+    process.stdin.setRawMode(true);
+    process.stdin.on("keypress", (letter, key) => terminal.press(letter, key));
+    process.stdout.on("resize", () => terminal.draw());
+    for (const signal of ["SIGTERM", "SIGHUP"]) process.on(signal, leave);
+    process.on("uncaughtException", (error) => {
+        process.stdout.write("\x1b[?25h\x1b[?1049l");
+        refuse(error.stack);
+    });
+    terminal.draw();
+}
+
+async function main([wasm, edition, end, file]) {
+    if (!process.stdin.isTTY || !process.stdout.isTTY)
+        refuse("this is no terminal. ./dock --web makes a page for the browser, and ./panel FILE shows a picture anywhere");
+    const locale = process.env.LC_ALL || process.env.LC_CTYPE || process.env.LANG || "";
+    if (!/utf-?8/i.test(locale))
+        refuse(`the terminal is not set to UTF-8 (it says "${locale}"), and the picture needs it. If it can: LANG=C.UTF-8 ./dock`);
+    let card;
+    try {
+        card = await Card.from(readFileSync(wasm));
+    } catch (error) {
+        refuse(error.code === "ENOENT" ? `${wasm} is missing: docks/build makes it` : error.message);
+    }
+    const terminal = new Terminal(card, Number(edition), Number(end));
+    terminal.open(file);
+    const { text, refused } = terminal.dock.said;
+    if (refused) refuse(text);
+    if (wasm.endsWith("unproved.wasm"))
+        terminal.dock.say(`${text} This is the card's source without proof: ./dock --prove proves it first.`);
+    enter(terminal);
+}
+
+await main(process.argv.slice(2));

@@ -1,0 +1,219 @@
+// The parts of a dock that need no screen: the machine, its words, the card's file, and the lines of the terminal.
+
+import assert from "node:assert/strict";
+import { readFileSync } from "node:fs";
+import { test } from "node:test";
+import { CALLS, Card, Machine, PLACE, SMALL_END } from "../machine.js";
+import { Dock, Pace, salvageInWords } from "../dock.js";
+import { PROGRAMS } from "../programs.js";
+import { COLUMNS, LINES, screen, STYLES } from "../terminal/screen.js";
+import { hex, instruction } from "../words.js";
+
+const wasm = readFileSync(new URL("../../target/dock/card.wasm", import.meta.url));
+const card = () => Card.from(wasm);
+const own = (name) => readFileSync(new URL(`../../programs/${name}`, import.meta.url));
+const HISTORY_AT = 8 + 64 + 4096 + 256;
+
+/** A dock with a program of our own in it. */
+async function dockWith(name, edition = 1) {
+    const dock = new Dock(await card());
+    assert.ok(dock.load(name, own(name), edition));
+    return dock;
+}
+
+/** All that a machine is, to be compared. */
+const all = (machine) => machine.buffers.map((buffer) => buffer.slice());
+
+test("a module of another version of the boundary is named", async () => {
+    const { exports } = await card();
+    const { card_salvage, ...older } = exports;
+    assert.throws(() => new Card(older), /another version.*card_salvage takes no numbers there and 8 here/);
+    const newer = { ...exports, card_tick: (image, imageLength, history, historyLength, more) => more };
+    assert.throws(() => new Card(newer), /another version.*card_tick takes 5 numbers there and 4 here/);
+});
+
+test("the header has the calls that a dock makes, with the same words", () => {
+    const header = readFileSync(new URL("../../include/card.h", import.meta.url), "utf8");
+    for (const [name, handed] of Object.entries(CALLS)) {
+        const [, parameters] = header.match(new RegExp(`uint32_t ${name}\\(([^)]*)\\)`));
+        const words = parameters.split(",").map((parameter) => parameter.trim().replace(/^.*[ *]/, (type) => (type.includes("*") ? "*" : "")));
+        const found = words.filter((word) => !word.endsWith("_length")).map((word) => (word.startsWith("*") ? `${word.slice(1)}*` : word));
+        assert.equal(found.join(" "), handed, name);
+    }
+});
+
+test("an instruction is in words exactly where the card accepts it", async () => {
+    const machine = new Machine(await card());
+    for (const edition of [0, 1]) {
+        machine.load(Uint8Array.of(0, 0), edition);
+        const start = machine.image.slice();
+        for (let code = 0; code < 65536; code++) {
+            machine.image.set(start);
+            machine.memory[0x200] = code >> 8;
+            machine.memory[0x201] = code & 255;
+            const refusal = machine.step(0, 0);
+            const does = instruction(hex(code, 4), edition);
+            const expected = { "no instruction of this edition": 2, "a call into machine language": 3 }[does] ?? 0;
+            assert.equal([2, 3].includes(refusal) ? refusal : 0, expected, hex(code, 4));
+        }
+    }
+});
+
+test("steps are taken back and made again, and what changed is known", async () => {
+    const dock = await dockWith("digits.ch8");
+    const start = all(dock.machine);
+    dock.step(0);
+    assert.equal(dock.machine.v[3], 97);
+    assert.equal(dock.before.v[3], 0);
+    for (let n = 0; n < 30; n++) dock.step(0);
+    const end = all(dock.machine);
+    dock.seek(0);
+    assert.deepEqual(all(dock.machine).slice(1, 3), start.slice(1, 3));
+    assert.equal(dock.machine.ahead, 31);
+    dock.seek(31);
+    assert.deepEqual(all(dock.machine), end);
+    assert.ok(!dock.forward());
+    assert.match(dock.said.text, /^Forward: refused with 12, nothing is ahead.* Nothing was changed\.$/);
+});
+
+test("a run makes a tick and N steps a frame, and marks its last action", async () => {
+    const dock = await dockWith("squash.ch8");
+    dock.stepsAFrame = 7;
+    dock.start();
+    for (let n = 0; n < 10; n++) dock.frame(0);
+    assert.equal(dock.machine.kept, 80);
+    dock.pause();
+    assert.equal(dock.before.kept, 79);
+    assert.equal(dock.before.ahead, 1);
+});
+
+test("a run pauses before the break, and goes on from it", async () => {
+    const dock = await dockWith("digits.ch8");
+    dock.breakAt = 0x0202;
+    for (const expected of [1, 1 + 16]) {
+        dock.start();
+        for (let n = 0; n < 100 && dock.running; n++) dock.frame(0);
+        assert.equal(dock.machine.pc, 0x0202);
+        assert.match(dock.said.text, /The break at 0202 is reached/);
+        assert.ok(dock.machine.kept >= expected);
+    }
+});
+
+test("a refused step ends a run, stays on the screen and is stepped back from", async () => {
+    const dock = await dockWith("again.ch8");
+    dock.start();
+    for (let n = 0; n < 5; n++) if (dock.running) dock.frame(0);
+    assert.ok(!dock.running);
+    assert.match(dock.said.text, /Step: refused with 3, a call into machine language.* \(00FD at 0218\)\. Nothing was changed/);
+    assert.equal(dock.machine.lit, 76);
+    assert.ok(dock.back());
+});
+
+test("a file that is empty or too long is refused and leaves the machine", async () => {
+    const dock = await dockWith("mover.ch8");
+    dock.step(0);
+    const before = all(dock.machine);
+    for (const length of [0, 3585, 90_000]) {
+        const { program } = dock.look(new Uint8Array(length));
+        assert.ok(!dock.load("wrong", program, 1));
+        assert.match(dock.said.text, /^Load wrong: refused with 8.*Nothing was changed\.$/);
+        assert.deepEqual(all(dock.machine), before);
+    }
+});
+
+test("the 2K profile is chosen at load, and memory ends there", async () => {
+    const dock = new Dock(await card());
+    assert.ok(dock.load("small", new Uint8Array(1184), 1, SMALL_END));
+    assert.match(dock.said.text, /2K profile/);
+    assert.equal(dock.machine.end, SMALL_END);
+    assert.ok(!dock.load("large", new Uint8Array(1185), 1, SMALL_END));
+    assert.match(dock.said.text, /refused with 8.*in the 2K profile 1 to 1,184/);
+    // 16A0 jumps to the end of memory, where nothing stands.
+    dock.load("jump", Uint8Array.of(0x16, 0xa0), 1, SMALL_END);
+    dock.step(0);
+    assert.equal(dock.instruction.does, "past the end of memory");
+    assert.ok(!dock.step(0));
+    assert.match(dock.said.text, /refused with 1, PC is past the end of memory.*\(nothing at 06A0\)/);
+});
+
+test("a card's file holds the machine with its past", async () => {
+    const dock = await dockWith("night.ch8");
+    for (let n = 0; n < 40; n++) dock.step(0);
+    dock.seek(25);
+    const saved = dock.save();
+    const other = await dockWith("keys.ch8");
+    const { parts, salvage } = other.look(saved);
+    assert.equal(salvage, undefined);
+    other.open("night.card", parts);
+    assert.deepEqual(all(other.machine), all(dock.machine));
+    other.seek(40);
+    dock.seek(40);
+    assert.deepEqual(all(other.machine), all(dock.machine));
+});
+
+test("a worn history is offered a salvage, and nothing is changed before", async () => {
+    const dock = await dockWith("night.ch8");
+    for (let n = 0; n < 40; n++) dock.step(0);
+    const file = dock.save();
+    file[HISTORY_AT + 29 * PLACE + 22] = 77;
+    const before = all(dock.machine);
+    const { parts, salvage } = dock.look(file);
+    assert.deepEqual(all(dock.machine), before);
+    assert.deepEqual([salvage.keeps, salvage.of, salvage.cleared.length], [10, 40, 214]);
+    assert.deepEqual(salvage.cleared[29], { place: 29, was: "kept" });
+    assert.deepEqual(salvageInWords(salvage), [
+        "Of 40 kept records the newest 10 are sound and would stay.",
+        "Cleared would be 30 that count as kept: 0 to 29.",
+        "Cleared would be 184 that count as free: 40 to 223.",
+    ]);
+    dock.open("worn", parts);
+    dock.seek(0);
+    assert.match(dock.said.text, /^Back: refused with 11, the record is damaged/);
+    assert.ok(dock.isDamaged);
+    dock.seek(40);
+    dock.salvage();
+    assert.equal(dock.machine.kept, 10);
+    dock.seek(0);
+    assert.ok(!dock.said.refused);
+    assert.equal(dock.look(dock.save()).salvage, undefined);
+});
+
+test("a worn record that is ahead is found as well", async () => {
+    const dock = await dockWith("night.ch8");
+    for (let n = 0; n < 40; n++) dock.step(0);
+    dock.seek(20);
+    const file = dock.save();
+    file[HISTORY_AT + 30 * PLACE + 5] ^= 4;
+    assert.equal(dock.look(file).salvage.keeps, 20);
+});
+
+test("a card's file that cannot be is named", async () => {
+    const dock = await dockWith("night.ch8");
+    const file = dock.save();
+    assert.throws(() => dock.look(file.subarray(0, 1000)), /it ends too early/);
+    assert.throws(() => dock.look(new Uint8Array([...file, ...new Uint8Array(500)])), /it is too long/);
+    file[8 + 20] = 13;
+    assert.throws(() => dock.look(file), /a state that cannot be \(10\)/);
+});
+
+test("every line of the terminal's screen fits", async () => {
+    for (const [name] of PROGRAMS) {
+        const dock = await dockWith(name);
+        for (let n = 0; n < 300; n++) {
+            dock.step(n % 2 ? 0xffff : 0);
+            const lines = screen(dock, { style: STYLES.colours, down: [], variables: n % 3 === 0 });
+            assert.equal(lines.length, LINES);
+            const widths = lines.map((line) => line.replace(/\x1b\[[0-9;]*m/g, "").length);
+            assert.ok(Math.max(...widths) <= COLUMNS, `${name}, line ${widths.findIndex((width) => width > COLUMNS) + 1}`);
+        }
+    }
+});
+
+test("the pace is sixty frames a second, and does not catch up", () => {
+    const pace = new Pace(0);
+    let frames = 0;
+    for (let now = 0; now <= 10_000; now += 7) frames += pace.due(now);
+    assert.ok(Math.abs(frames - 600) <= 1, `${frames}`);
+    assert.equal(pace.due(60_000), 4);
+    assert.equal(pace.due(60_000), 0);
+});

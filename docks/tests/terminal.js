@@ -1,0 +1,73 @@
+// The dock in a terminal: `script` of Debian's own bsdutils gives it one, and what it draws is read.
+//
+//   node terminal.js DOCK PROGRAM
+
+import assert from "node:assert/strict";
+import { spawn, spawnSync } from "node:child_process";
+import { setTimeout as wait } from "node:timers/promises";
+
+const [dock, program] = process.argv.slice(2);
+const UTF8 = { ...process.env, LC_ALL: "C.UTF-8", TERM: "xterm-256color" };
+
+class Screen {
+    constructor(columns, lines) {
+        this.drawn = "";
+        this.process = spawn("script", ["-qfec", `stty cols ${columns} rows ${lines}; ${dock} ${program}`, "/dev/null"], { env: UTF8 });
+        this.process.stdout.on("data", (text) => (this.drawn += text));
+        this.ended = new Promise((done) => this.process.on("close", done));
+    }
+    /** What stands on the screen: each drawing begins at its upper left corner. */
+    get text() {
+        return this.drawn.split("\x1b[H").at(-1).replace(/\x1b\[[0-9;?]*[a-zA-Z]/g, "");
+    }
+    async until(pattern) {
+        for (let tries = 0; tries < 200; tries++) {
+            if (pattern.test(this.text)) return;
+            await wait(50);
+        }
+        throw new Error(`${pattern} did not come; the screen is\n${this.text}`);
+    }
+    press(keys) {
+        this.process.stdin.write(keys);
+    }
+    async quit() {
+        this.press("\x03");
+        assert.equal(await this.ended, 0);
+        assert.ok(this.drawn.endsWith("\x1b[?1049l"), "the terminal is given back");
+    }
+}
+
+const ENTER = "\r";
+const LEFT = "\x1b[D";
+const RIGHT = "\x1b[C";
+
+const screen = new Screen(80, 24);
+await screen.until(/is loaded, for the second edition/);
+screen.press(ENTER + ENTER + ENTER);
+await screen.until(/kept 3, ahead 0/);
+screen.press(LEFT + LEFT);
+await screen.until(/kept 1, ahead 2/);
+screen.press(RIGHT);
+await screen.until(/kept 2, ahead 1/);
+screen.press(LEFT + LEFT + LEFT);
+await screen.until(/Back: refused with 7/);
+screen.press("b");
+await screen.until(/Break at/);
+screen.press(`208${ENTER} `);
+await screen.until(/The break at 0208 is reached/);
+screen.press("?");
+await screen.until(/to the start, to the end of the timeline/);
+await screen.quit();
+console.log("  steps, backs, forwards, a refusal, a break and the help are shown, and the terminal is given back");
+
+const small = new Screen(79, 24);
+await small.until(/The dock needs 80 columns and 24 lines; this terminal has 79 and 24/);
+await small.quit();
+
+const none = spawnSync(dock, [program], { encoding: "utf8", input: "" });
+assert.equal(none.status, 2);
+assert.match(none.stderr, /^dock: this is no terminal/);
+
+const other = spawnSync("script", ["-qec", `${dock} ${program}`, "/dev/null"], { encoding: "utf8", env: { ...UTF8, LC_ALL: "C" } });
+assert.match(other.stdout, /dock: the terminal is not set to UTF-8/);
+console.log("  one that is too small, not UTF-8 or no terminal gets a clear word");
