@@ -9,6 +9,7 @@ export const CALLS = {
     card_back: "image* memory* rows* history*",
     card_forward: "image* memory* rows* history*",
     card_run: "image* memory* rows* history* ticks* keys* randoms* answer*",
+    card_plain: "image* memory* spots* ticks* keys* randoms* answer*",
     card_play: "image* memory* rows* history* moves* keys* randoms*",
     card_rows: "picture* rows*",
     card_bytes: "rows* picture*",

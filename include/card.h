@@ -7,9 +7,10 @@
  * of inputs, and play a list of moves. They hold the picture as rows, and two
  * more turn rows into bytes and bytes into rows. A tenth turns those bytes into
  * the ones of the card's own panel, an eleventh draws a page of the variables,
- * for a dock that shows the game or its insides, and a twelfth salvages a history
- * in which cells have worn. A load chooses the edition of the instruction set and
- * where memory ends.
+ * for a dock that shows the game or its insides, a twelfth salvages a history
+ * in which cells have worn, and a thirteenth makes a run on the plain engine of
+ * the bench, with no history. A load chooses the edition of the instruction set
+ * and where memory ends.
  *
  * THE BUFFERS
  *
@@ -42,9 +43,14 @@
  *   page     256 bytes     spots as in a picture, so card_panel turns it into
  *                          dots too
  *
- * and for card_salvage alone:
+ * for card_salvage alone:
  *
  *   list     two numbers of 16 bits for each place of the history, or more
+ *
+ * and for card_plain alone:
+ *
+ *   spots    2,048 bytes   the same spots once more, a byte for each: 0 dark, 1
+ *                          lit, rows from the top, left to right
  *
  * Each buffer is handed over as a pointer and, right after it, its length. The
  * length counts elements: bytes, 16-bit numbers for keys and for a list, 64-bit
@@ -112,10 +118,10 @@
  * Every function returns 0 (CARD_DONE) or a refusal number. A refused call
  * leaves every buffer as it came, with these three exceptions:
  *   - card_load leaves the fresh image in a 64-byte image, refused or not;
- *   - card_step, card_run and card_salvage write all four numbers of the answer,
- *     refused or not, unless the answer itself has a wrong length;
- *   - card_run and card_play keep the actions that were accepted before,
- *     whichever number comes after them.
+ *   - card_step, card_run, card_salvage and card_plain write all four numbers of
+ *     the answer, refused or not, unless the answer itself has a wrong length;
+ *   - card_run, card_play and card_plain keep the actions that were accepted
+ *     before, whichever number comes after them.
  *
  * AN EXAMPLE
  *
@@ -236,12 +242,13 @@ enum card_refusal {
  *   panel    9
  *   page     9, 10
  *   salvage  9, 10
+ *   plain    9, 10, then that of the step that ended it, 10 late too
  *
  * The late 10 is said of the number of lit spots alone: the state is one that can
  * be, but the number in it is false. Like every refusal of an action it leaves
  * everything. A run ends there and a play goes on, and both keep the actions
- * before it. So CARD_UNSOUND of a run or a play does not say that nothing was
- * done.
+ * before it. So CARD_UNSOUND of a run or a play, on either engine, does not say that
+ * nothing was done.
  */
 
 /* ---- The image ---------------------------------------------------------- */
@@ -284,7 +291,10 @@ enum card_refusal {
 
 /* ---- The answer of a step and of a run ---------------------------------- */
 
-/* Where each number stands. The one after these is for later use and 0. */
+/*
+ * Where each number stands. The one after these is for later use and 0; so are the
+ * three after the first, of card_plain.
+ */
 #define CARD_ACCEPTED 0  /* how many steps were accepted */
 #define CARD_WENT_DARK 1 /* how many lit spots their drawings darkened */
 #define CARD_COPIED 2    /* of a run: how many bytes its records keep */
@@ -513,6 +523,30 @@ uint32_t card_salvage(uint8_t *image, size_t image_length,
                       uint8_t *history, size_t history_length,
                       uint16_t *list, size_t list_length,
                       uint64_t *answer, size_t answer_length);
+
+/*
+ * Makes a run on the plain engine, which has no history and does everything spot
+ * by spot: it is there for the bench, to be read and to be compared with, and is
+ * far slower than card_run. The spot in column x of row y is
+ *   spots[64 * y + x]
+ *
+ * Given the same image, memory and lists as card_run and the same picture in its
+ * own form, it gives the same number, the same memory, the same state in the image
+ * and the same answer[CARD_ACCEPTED], and the spots are then those of the rows,
+ * whatever the history was. It is lent no history: next, kept and ahead of the
+ * image are neither tested nor changed, and the other three numbers of the answer
+ * are 0.
+ *
+ * Memory, spots or lists of a wrong length are CARD_LENGTH. A state that cannot be
+ * is CARD_UNSOUND, and so is a spot that is neither 0 nor 1.
+ */
+uint32_t card_plain(uint8_t *image, size_t image_length,
+                    uint8_t *memory, size_t memory_length,
+                    uint8_t *spots, size_t spots_length,
+                    const uint8_t *ticks, size_t ticks_length,
+                    const uint16_t *keys, size_t keys_length,
+                    const uint8_t *randoms, size_t randoms_length,
+                    uint64_t *answer, size_t answer_length);
 
 #ifdef __cplusplus
 }

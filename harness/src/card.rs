@@ -5,6 +5,7 @@
 
 use crate::buffers::{Lent, Lists, Told};
 use crate::engine::Engine;
+use crate::plain;
 
 /// Declares a call of the archive and makes it. What crosses is `read` or
 /// `write`, a slice; `value`, a number; `machine`, all the buffers of one; or
@@ -80,6 +81,12 @@ impl Engine<u64> for Archive {
     fn bytes(&self, rows: &[u64], picture: &mut [u8]) -> u32 {
         cross!(card_bytes: read u64 rows, write u8 picture)
     }
+}
+
+/// A run of the plain engine.
+pub fn plain(lent: plain::Lent, lists: Lists, answer: &mut [u64]) -> u32 {
+    cross!(card_plain: write u8 lent.image, write u8 lent.memory, write u8 lent.spots,
+        lists lists, write u64 answer)
 }
 
 pub fn panel(picture: &[u8], panel: &mut [u8]) -> u32 {

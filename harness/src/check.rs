@@ -7,6 +7,7 @@ use crate::buffers::{Buffers, Host, Lent, Lists, Part, Told, PARTS};
 use crate::case::{hex, wear, write_bytes, Call, Case};
 use crate::engine::{Engine, Second};
 use crate::guard::{Guarded, Item};
+use crate::plain::{self, numbered, spots_of};
 use crate::plain_list::PlainList;
 use crate::rows::{bytes_of, rows_of};
 use crate::second::{lit_spots, test_state, Machine, Refusal, IMAGE};
@@ -46,6 +47,13 @@ pub fn check(engine: &dyn Engine<u64>, case: &Case, tally: &mut Tally) -> Result
             }
             Call::Rows { picture, rows } => check_rows(engine, picture, rows).map(|came| came.0),
             Call::Bytes { rows, picture } => check_bytes(engine, rows, picture).map(|came| came.0),
+            Call::Run { .. } => {
+                let before = sides.expected.clone();
+                sides.make(engine, call).and_then(|refusal| {
+                    tally.count_plain(sides.run_plainly(&before, call, refusal)?);
+                    Ok(refusal)
+                })
+            }
             _ => sides.make(engine, call),
         };
         let refusal = refusal.map_err(|what| Mismatch { call: number, what })?;
@@ -97,6 +105,63 @@ pub fn check_panel(picture: &[u8], panel: &[u8]) -> Filled<u8> {
 /// The stepper's page of variables beside the page spot by spot.
 pub fn check_page(image: &[u8], before: &[u8]) -> Filled<u8> {
     check_filling(image, before, card::page, page::page)
+}
+
+/// What a run of the plain engine left.
+pub struct Plain {
+    pub refusal: u32,
+    pub image: Vec<u8>,
+    pub memory: Vec<u8>,
+    pub spots: Vec<u8>,
+    pub answer: Vec<u64>,
+}
+
+/// A run of the card's plain engine beside that of the second interpreter,
+/// each on copies of the same buffers.
+pub fn check_plain(
+    [image, memory, spots]: [&[u8]; 3],
+    lists: Lists,
+    answer_length: usize,
+) -> Result<Plain, String> {
+    let lent_lists = LentLists::new(&lists);
+    let mut lent = [image, memory, spots].map(Guarded::buffer);
+    let mut answered = Guarded::new(&vec![UNWRITTEN; answer_length]);
+    let [lent_image, lent_memory, lent_spots] = &mut lent;
+    let refusal = card::plain(
+        plain::Lent {
+            image: lent_image.lent(),
+            memory: lent_memory.lent(),
+            spots: lent_spots.lent(),
+        },
+        lent_lists.lists(),
+        answered.lent(),
+    );
+    lent_lists.compare(&lists)?;
+
+    let mut left = Plain {
+        refusal,
+        image: image.to_vec(),
+        memory: memory.to_vec(),
+        spots: spots.to_vec(),
+        answer: vec![UNWRITTEN; answer_length],
+    };
+    let expected = plain::run(
+        plain::Lent {
+            image: &mut left.image,
+            memory: &mut left.memory,
+            spots: &mut left.spots,
+        },
+        lists,
+        &mut left.answer,
+    );
+    if expected != refusal {
+        return Err(format!("plain: expected refusal {expected}, got {refusal}"));
+    }
+    compare_answer(&left.answer, &answered)?;
+    compare_buffer("image of the plain engine", &left.image, &lent[0])?;
+    compare_buffer("memory of the plain engine", &left.memory, &lent[1])?;
+    compare_buffer("spots", &left.spots, &lent[2])?;
+    Ok(left)
 }
 
 /// An engine's rows of a picture beside the second interpreter's.
@@ -219,6 +284,32 @@ impl Sides {
         self.follow(call, refusal)?;
         self.look_at_lit(call, refusal)?;
         Ok(refusal)
+    }
+
+    /// the plain engine makes a run that was made, on copies of what stood
+    /// before it. If the first engine took the state, both leave the same.
+    fn run_plainly(&self, before: &Host, call: &Call, refusal: u32) -> Result<u32, String> {
+        let spots = spots_of(&before.picture);
+        let lent = [&before.image[..], &before.memory, &spots];
+        let plain = check_plain(lent, call.lists(), call.answer_length())?;
+        let taken = match refusal {
+            9 => false,
+            10 => self.said_late(call, refusal),
+            _ => true,
+        };
+        if taken {
+            let machine = Machine::from_image(&self.expected.image);
+            let was = Machine::from_image(&before.image);
+            let image = numbered(machine, [was.next, was.kept, was.ahead]).to_image();
+            let same = plain.refusal == refusal
+                && plain.image == image
+                && plain.memory == self.expected.memory
+                && plain.spots == spots_of(&self.expected.picture);
+            if !same {
+                return Err("the plain engine's run is not that of the first".to_string());
+            }
+        }
+        Ok(plain.refusal)
     }
 
     /// Keeps the plain list beside the calls. A load begins a new one.

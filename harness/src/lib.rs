@@ -10,6 +10,7 @@ pub mod engine;
 pub mod generate;
 pub mod guard;
 pub mod page;
+pub mod plain;
 pub mod plain_list;
 pub mod random;
 pub mod recording;

@@ -22,6 +22,7 @@ use crate::buffers::{Host, Lent, Part, Told, PARTS};
 use crate::case::{wear, write_bytes, Call, Case};
 use crate::check::{make, UNWRITTEN};
 use crate::engine::{Engine, Second};
+use crate::plain::{self, spots_of};
 use crate::random::Random;
 use crate::rows::rows_of;
 use crate::{dots, page};
@@ -159,6 +160,10 @@ impl<W: Write> Recording<W> {
         for call in &case.calls {
             match call {
                 Call::Write { .. } | Call::Wear { .. } => self.own_write(call)?,
+                Call::Run { .. } => {
+                    self.plain(call)?;
+                    self.call(call)?;
+                }
                 _ => self.call(call)?,
             }
         }
@@ -196,6 +201,42 @@ impl<W: Write> Recording<W> {
         };
         let (name, crossings) = crossing(call);
         self.record(name, &crossings, refusal, before, others)
+    }
+
+    /// A run, made by the plain engine on copies, with spots that are mostly those
+    /// of the host's picture.
+    fn plain(&mut self, call: &Call) -> io::Result<()> {
+        let lists = call.lists();
+        let mut spots = spots_of(&self.host.picture);
+        match self.random.within(0..=15) {
+            0 => spots.resize(self.near(plain::SPOTS), 0),
+            1 if !spots.is_empty() => {
+                let at = self.random.within(0..=spots.len() - 1);
+                spots[at] = self.random.pick(&[2, 3, 128, 255]);
+            }
+            _ => {}
+        }
+        let before = [&self.host.image, &self.host.memory, &spots];
+        let mut after = before.map(Vec::clone);
+        let unwritten = vec![UNWRITTEN; call.answer_length()];
+        let mut answer = unwritten.clone();
+        let [image, memory, spots] = &mut after;
+        let lent = plain::Lent {
+            image,
+            memory,
+            spots,
+        };
+        let refusal = plain::run(lent, lists, &mut answer);
+        let mut others: Vec<Filled> = before
+            .iter()
+            .zip(&after)
+            .map(|(before, after)| filled(before, after))
+            .collect();
+        others.extend([read(lists.first), read(lists.keys), read(lists.randoms)]);
+        others.push(filled(&unwritten, &answer));
+        let crossings: Vec<Crossing> = others.iter().map(|_| Other).collect();
+        let machine = buffers(&self.host);
+        self.record("card_plain", &crossings, refusal, machine, others)
     }
 
     /// The picture that the host holds, as a panel.

@@ -5,9 +5,11 @@ use std::fmt;
 
 use crate::case::Call;
 
-const CALLS: [&str; 10] = [
-    "load", "step", "tick", "back", "forward", "run", "play", "salvage", "rows", "bytes",
+const CALLS: [&str; 11] = [
+    "load", "step", "tick", "back", "forward", "run", "play", "salvage", "rows", "bytes", PLAIN,
 ];
+/// The plain engine's run, which is made beside each run.
+const PLAIN: &str = "plain";
 /// 0 for done, then the refusals 1 to 12.
 const REFUSALS: usize = 13;
 
@@ -21,6 +23,12 @@ pub struct Tally {
 impl Tally {
     pub fn count(&mut self, call: &Call, refusal: u32) {
         self.counts[row(call)][refusal as usize] += 1;
+    }
+
+    /// Counts a run of the plain engine.
+    pub fn count_plain(&mut self, refusal: u32) {
+        let row = named(PLAIN).expect("it is named above");
+        self.counts[row][refusal as usize] += 1;
     }
 
     /// Counts a 10 once more, as one that came after the other numbers.

@@ -1,4 +1,4 @@
--- The boundary's promises are tight: two results that one call allows are equal, the answer of a step, a run or a salvage, the list, the page,
+-- The boundary's promises are tight: two results that one call allows are equal, the answer of a step, a run, a salvage or a plain run, the list, the page,
 -- the panel and the two forms of the picture included.
 use mathlib.Core.Path.{_≡_, sym, ap, _∙_}
 use mathlib.Core.List.{List}
@@ -7,6 +7,7 @@ use lib.Dec.{eqb}
 use Rattle.rules.specs.Number.{pick}
 use Rattle.imaged.specs.Imaged.{Card}
 use Rattle.imaged_salvage.specs.Salvaged.{LeavesSalvage}
+use Rattle.imaged_plain.specs.PlainOn.{PlainCard, LeavesPlain}
 use Rattle.salvage.specs.Salvage.{Salvage}
 use Rattle.imaged.proofs.OnlyOne.{Result, Typed, Left, only-one}
 use Rattle.card.specs.Card.{answered, LeavesPage, LeavesPanel, LeavesRows, LeavesBytes}
@@ -32,6 +33,13 @@ pub only-one-salvage : (image : List ℕ) (s : Salvage) (first second : ℕ) (be
     → (n ≡ k) × (img ≡ img′) × (his ≡ his′) × (lst ≡ lst′) × (x ≡ y)
 only-one-salvage image s first second before n k img img′ his his′ lst lst′ x y g p h q =
     (g .says ∙ sym (h .says), g .image ∙ sym (h .image), g .history ∙ sym (h .history), g .list ∙ sym (h .list), p ∙ sym q)
+
+pub only-one-plain : (c : PlainCard) (accepted : ℕ) (before : List ℕ) (n k : ℕ) (img img′ mem mem′ spots spots′ x y : List ℕ)
+    → LeavesPlain c n img mem spots → x ≡ answered accepted 0 0 before
+    → LeavesPlain c k img′ mem′ spots′ → y ≡ answered accepted 0 0 before
+    → (n ≡ k) × (img ≡ img′) × (mem ≡ mem′) × (spots ≡ spots′) × (x ≡ y)
+only-one-plain c accepted before n k img img′ mem mem′ spots spots′ x y g p h q =
+    (g .says ∙ sym (h .says), g .image ∙ sym (h .image), g .memory ∙ sym (h .memory), g .spots ∙ sym (h .spots), p ∙ sym q)
 
 pub only-one-page : (n k : ℕ) (image before x y : List ℕ) → LeavesPage n image before x → LeavesPage k image before y → (n ≡ k) × (x ≡ y)
 only-one-page n k image before x y g h = (g .says ∙ sym (h .says), g .bytes ∙ sym (h .bytes))

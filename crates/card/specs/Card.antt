@@ -21,6 +21,7 @@ use Rattle.panel.specs.Panel.{fits, panelRefusal, panelAfter, PanelOf}
 use Rattle.image.specs.Image.{imageSize, machineOf, trailOf}
 use Rattle.imaged.specs.Imaged.{Card, worldOf, shown, loadBy, whole, ranOn, playedOn}
 use Rattle.imaged_salvage.specs.Salvaged.{salvageOf}
+use Rattle.imaged_plain.specs.PlainOn.{PlainCard, plainOf, plainOn}
 use Rattle.salvage.specs.Salvage.{Salvage, refused}
 
 abbrev pub sized : List ℕ → Bool
@@ -74,8 +75,15 @@ unfoldable pub cardSalvage : Bool → List ℕ → List ℕ → List ℕ → Sal
 cardSalvage answers image history list =
     pick (sized image && answers) (salvageOf image history list) (refused (numberOf BufferLength) (trailOf image) history list)
 
+-- a run of the plain engine takes spots for the picture, and no history
+unfoldable pub cardPlain : List ℕ → List ℕ → List ℕ → Bool → List ℕ → List ℕ → List ℕ → PlainCard
+cardPlain ticks keys randoms answers image memory spots =
+    pick (sized image && answers) (plainOn ticks keys randoms image memory spots)
+    (record { refusal = numberOf BufferLength; image = image; memory = memory; spots = spots })
+
 -- ---- the answer's four numbers. Of a step and a run: how many steps were accepted, how many spots they darkened, how many bytes the records of
--- a run keep, and one that is kept for what is to come. Of a salvage: how many records are kept, how many places cleared, and two zeros
+-- a run keep, and one that is kept for what is to come. Of a salvage: how many records are kept, how many places cleared, and two zeros. Of a
+-- run of the plain engine: how many steps were accepted, and three zeros
 
 abbrev pub answers : List ℕ → Bool
 answers answer = eqb (length answer) 4
@@ -97,6 +105,9 @@ runWentDark ticks keys randoms image memory picture history =
 unfoldable pub runHasCopied : List ℕ → List ℕ → List ℕ → List ℕ → List ℕ → List ℕ → List ℕ → ℕ
 runHasCopied ticks keys randoms image memory picture history =
     pick (sized image) (runCopied ticks keys randoms (worldOf image memory picture history)) 0
+
+unfoldable pub plainAccepted : List ℕ → List ℕ → List ℕ → List ℕ → List ℕ → List ℕ → ℕ
+plainAccepted ticks keys randoms image memory spots = pick (sized image) ((plainOf ticks keys randoms image memory spots) .accepted) 0
 
 -- ---- the promises of the page, of the panel and of the two turnings
 

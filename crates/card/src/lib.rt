@@ -10,6 +10,7 @@ ghost use Rattle.rules.specs.Past.{PlayTells};
 ghost use Rattle.rules.specs.Rows.{bytesOf};
 ghost use Rattle.imaged.specs.Imaged.{worldOf, Leaves};
 ghost use Rattle.imaged_salvage.specs.Salvaged.{LeavesSalvage};
+ghost use Rattle.imaged_plain.specs.PlainOn.{LeavesPlain};
 ghost use Rattle.card.specs.Card.{sized, answers, answered, LeavesPage, LeavesPanel, LeavesRows, LeavesBytes};
 ghost use Rattle.card.specs.Card as spec;
 
@@ -208,6 +209,35 @@ pub extern "C" fn card_salvage(
     }
     let told = imaged_salvage::salvage(image, history, list);
     put_answer(answer, told.kept, told.cleared, 0);
+    told.number
+}
+
+#[no_mangle]
+pub extern "C" fn card_plain(
+    image: &mut [u8],
+    memory: &mut [u8],
+    spots: &mut [u8],
+    ticks: &[u8],
+    keys: &[u16],
+    randoms: &[u8],
+    answer: &mut [u64],
+) -> u32
+    ensures { λ r. ⌜ LeavesPlain
+        (spec.cardPlain (now (ticks .entry)) (now (keys .entry)) (now (randoms .entry)) (answers (now (answer .entry)))
+        (now (image .entry)) (now (memory .entry)) (now (spots .entry))) r (now (image .exit)) (now (memory .exit)) (now (spots .exit)) ⌝ }
+    ensures { λ r. ⌜ now (answer .exit) ≡ answered
+        (spec.plainAccepted (now (ticks .entry)) (now (keys .entry)) (now (randoms .entry)) (now (image .entry))
+        (now (memory .entry)) (now (spots .entry))) 0 0 (now (answer .entry)) ⌝ }
+{
+    if image.len() != image::IMAGE {
+        put_answer(answer, 0, 0, 0);
+        return 9;
+    }
+    if answer.len() != ANSWER {
+        return 9;
+    }
+    let told = imaged_plain::run(image, memory, spots, ticks, keys, randoms);
+    put_answer(answer, told.accepted, 0, 0);
     told.number
 }
 

@@ -61,7 +61,7 @@ order-depth true depth e = refl
 order-depth false depth e = absurd (false≢true e)
 
 -- an image that stands for a sound state is in order
-sound-order : (b : List ℕ) → sound (machineOf b) ≡ true → inOrder b ≡ true
+pub sound-order : (b : List ℕ) → sound (machineOf b) ≡ true → inOrder b ≡ true
 unfolding machineOf
 sound-order b e = order-depth (inOrder b) (byteAt b 20) (sound-parts (machineOf b) e .depth)
 

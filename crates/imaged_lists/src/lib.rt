@@ -25,7 +25,7 @@ pub struct Told {
 
 // After a run or a play. One that is refused itself hands back the state as it came, so to write that changes no byte; and an image that
 // is not in order, which no call takes, is left.
-fn after_list(image: &mut [u8], answer: Answer) -> u32
+pub fn after_list(image: &mut [u8], answer: Answer) -> u32
     requires { ⌜ length (now image) ≡ imageSize ⌝ }
     ensures { λ r. ⌜ (r ≡ refusal.number (answer .outcome)) × (now (image .exit) ≡ pick (inOrder (now (image .entry)))
         (imageOf (answer .machine) (answer .trail)) (now (image .entry))) ⌝ }

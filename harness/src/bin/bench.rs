@@ -1,6 +1,7 @@
 //! Steps a second of the card's archive, beside the hand-tuned engine and
 //! beside the floor: only clearing the 292 bytes of each action's record. Then
-//! bytes a second of the panel, beside copying as many bytes.
+//! bytes a second of the panel, beside copying as many bytes, and steps a second of
+//! the plain engine.
 //!
 //! Everything is measured in one run, in turns, so that whatever else the
 //! computer does meets all of them alike.
@@ -13,6 +14,7 @@ use harness::buffers::{Lent, Lists};
 use harness::card::{self, Archive};
 use harness::dots::PANEL;
 use harness::engine::{Engine, ACCEPTED, ANSWER};
+use harness::plain::{self, SPOTS};
 use harness::second::{
     FIRST_EDITION, FULL_END, HISTORY_MOST, IMAGE, LIST_MOST, MEMORY, PICTURE, PLACE, ROWS,
     SECOND_EDITION,
@@ -83,6 +85,7 @@ fn main() {
         print_steps(&measured);
     }
     print_panel();
+    print_plain();
 }
 
 fn print_runs(measured: &[(&str, Measured)]) {
@@ -138,6 +141,24 @@ fn print_panel() {
         "{:>7.0} ({:>6.0}) | {:>7.0} ({:>6.0}) | {to_copy:>9.1}",
         turned.best, turned.median, copied.best, copied.median
     );
+}
+
+/// The plain engine on the same programs, a list a turn. It is there to be read,
+/// and the figures say what that costs.
+fn print_plain() {
+    println!("\nThe plain engine, which keeps no history");
+    println!("{:<15} | card_plain", "a run");
+    for program in &PROGRAMS {
+        let mut desk = Desk::new(program, PLACE, &Archive);
+        let mut spots = vec![0; SPOTS];
+        let mut turn = || {
+            let start = Instant::now();
+            desk.run_plainly(&mut spots);
+            LIST_MOST as f64 / start.elapsed().as_secs_f64() / 1e6
+        };
+        let Speed { best, median } = best_and_median((0..TURNS).map(|_| turn()).collect());
+        println!("{:<15} | {best:>6.2} ({median:>6.2})", program.name);
+    }
 }
 
 /// The speed of one turn of a function that writes a panel.
@@ -281,6 +302,22 @@ impl<E: Engine<u64>> Desk<'_, E> {
             randoms: &self.randoms,
         };
         let refusal = self.engine.run(self.host.lend(), lists, &mut answer);
+        assert_eq!((refusal, answer[ACCEPTED]), (0, LIST_MOST as u64));
+    }
+
+    fn run_plainly(&mut self, spots: &mut [u8]) {
+        let mut answer = [0; ANSWER];
+        let lists = Lists {
+            first: &self.ticks,
+            keys: &self.keys,
+            randoms: &self.randoms,
+        };
+        let lent = plain::Lent {
+            image: &mut self.host.image,
+            memory: &mut self.host.memory,
+            spots,
+        };
+        let refusal = card::plain(lent, lists, &mut answer);
         assert_eq!((refusal, answer[ACCEPTED]), (0, LIST_MOST as u64));
     }
 

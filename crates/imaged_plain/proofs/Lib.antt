@@ -1,0 +1,3 @@
+-- What a run gave, seen through the image.
+pub mod Seen
+pub mod Chains

@@ -1,0 +1,2 @@
+-- A run of the plain engine on an image.
+pub mod PlainOn

@@ -1,0 +1,2 @@
+-- What an instruction, and a step, answers and leaves.
+pub mod Laws
