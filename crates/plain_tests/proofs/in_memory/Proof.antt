@@ -3,8 +3,8 @@ use mathlib.Core.Path.{sym}
 use native.Mathlib.Omega.{arith}
 use borrow.Author.Tests.{eq-eqb, ne-eqb, le-leb}
 use borrow.Author.Needs.{needs}
-use Rattle.plain_step.proofs.in_memory.Statement.{statement}
-use Rattle.plain_step.proofs.in_memory.Tie as tie
+use Rattle.plain_tests.proofs.in_memory.Statement.{statement}
+use Rattle.plain_tests.proofs.in_memory.Tie as tie
 
 returns : tie.Need-returns
 returns c = rw (eq-eqb _ _ (c .if1 .taken)) (sym (le-leb 0 (c .before .args .m .end) (omega arith)))

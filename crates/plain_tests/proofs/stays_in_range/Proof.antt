@@ -8,8 +8,8 @@ use borrow.Author.Needs.{needs}
 use Rattle.rules.specs.Step.{litRefusal}
 use Rattle.rules.proofs.Choices.{by-bool}
 use Rattle.rules.proofs.Counted.{lit-passes, lit-fails}
-use Rattle.plain_step.proofs.stays_in_range.Statement.{statement}
-use Rattle.plain_step.proofs.stays_in_range.Tie as tie
+use Rattle.plain_tests.proofs.stays_in_range.Statement.{statement}
+use Rattle.plain_tests.proofs.stays_in_range.Tie as tie
 
 returns : tie.Need-returns
 returns c = λ p q b a. let s = c .before in lit-fails (s .args .lit) p q (λ low high. omega (arith, c .if1 .taken))
