@@ -3,10 +3,10 @@ use mathlib.Core.Path.{_≡_}
 use Prim.Native.Nat.{_+_, _-_, _*_, _≤_}
 use native.Mathlib.Omega.{arith}
 use lib.ListN.{length}
-use Rattle.image.specs.Laid.{Stands}
-use Rattle.image.proofs.Pieces.{entries, no-entry, entry-more, entries-all}
-use Rattle.image.proofs.lay_stack.Statement.{statement}
-use Rattle.image.proofs.lay_stack.Tie as tie
+use Rattle.image_writing.specs.Laid.{Stands}
+use Rattle.image_writing.proofs.Pieces.{entries, no-entry, entry-more, entries-all}
+use Rattle.image_writing.proofs.lay_stack.Statement.{statement}
+use Rattle.image_writing.proofs.lay_stack.Tie as tie
 
 abbrev Inv-loop : tie.InvT-loop
 Inv-loop image₀ stack k₀ image k = (k ≤ 12) × (length image ≡ 64) × Stands (entries stack k) image₀ 24 image (24 + 2 * k)

@@ -3,9 +3,9 @@ use mathlib.Core.Path.{_≡_, refl}
 use native.Mathlib.Omega.{arith}
 use lib.ListN.{length}
 use borrow.Author.Needs.{needs}
-use Rattle.image.proofs.Pieces.{stands}
-use Rattle.image.proofs.lay_variables.Statement.{statement}
-use Rattle.image.proofs.lay_variables.Tie as tie
+use Rattle.image_writing.proofs.Pieces.{stands}
+use Rattle.image_writing.proofs.lay_variables.Statement.{statement}
+use Rattle.image_writing.proofs.lay_variables.Tie as tie
 
 sixteen : (c : tie.Start) → length (c .args .t2) ≡ 16
 sixteen c = search needs

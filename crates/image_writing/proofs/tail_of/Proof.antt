@@ -4,8 +4,8 @@ use mathlib.Core.List.{_∷_}
 use Prim.Native.Nat.{_/_, _%_}
 use lib.ListN.{replicate}
 use native.Mathlib.Omega.{arith}
-use Rattle.image.proofs.tail_of.Statement.{statement}
-use Rattle.image.proofs.tail_of.Tie as tie
+use Rattle.image_writing.proofs.tail_of.Statement.{statement}
+use Rattle.image_writing.proofs.tail_of.Tie as tie
 
 returns : tie.Need-returns
 returns c =

@@ -9,8 +9,8 @@ use lib.Seq.{take-suc-set, take-length}
 use Rattle.rules.specs.Number.{word}
 use Rattle.rules.specs.Memory.{over}
 use Rattle.rules.proofs.Laid.{behind}
 use Rattle.image.specs.Image.{sixFrom}
-use Rattle.image.specs.Laid.{Stands}
+use Rattle.image_writing.specs.Laid.{Stands}
 
 -- two bytes more
 pub two-laid : (l : List ℕ) (at n : ℕ) → at + 1 < length l

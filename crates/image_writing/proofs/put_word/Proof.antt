@@ -2,9 +2,9 @@
 use native.Mathlib.Omega.{arith}
 use lib.ListN.{length-set}
 use borrow.Author.Needs.{needs}
-use Rattle.image.proofs.Pieces.{two-laid}
-use Rattle.image.proofs.put_word.Statement.{statement}
-use Rattle.image.proofs.put_word.Tie as tie
+use Rattle.image_writing.proofs.Pieces.{two-laid}
+use Rattle.image_writing.proofs.put_word.Statement.{statement}
+use Rattle.image_writing.proofs.put_word.Tie as tie
 
 returns : tie.Need-returns
 returns c =

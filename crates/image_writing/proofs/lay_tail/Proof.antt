@@ -1,9 +1,9 @@
 -- Twelve bytes laid behind fifty-two.
 use mathlib.Core.Path.{refl}
 use native.Mathlib.Omega.{arith}
-use Rattle.image.proofs.Pieces.{stands}
-use Rattle.image.proofs.lay_tail.Statement.{statement}
-use Rattle.image.proofs.lay_tail.Tie as tie
+use Rattle.image_writing.proofs.Pieces.{stands}
+use Rattle.image_writing.proofs.lay_tail.Statement.{statement}
+use Rattle.image_writing.proofs.lay_tail.Tie as tie
 
 returns : tie.Need-returns
 returns c =

@@ -1,7 +1,7 @@
 -- Each element is what its callee ensures.
 use mathlib.Core.List.{[], _∷_}
-use Rattle.image.proofs.middle_of.Statement.{statement}
-use Rattle.image.proofs.middle_of.Tie as tie
+use Rattle.image_writing.proofs.middle_of.Statement.{statement}
+use Rattle.image_writing.proofs.middle_of.Tie as tie
 
 returns : tie.Need-returns
 returns c i =

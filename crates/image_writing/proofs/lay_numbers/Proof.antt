@@ -1,8 +1,8 @@
 -- Two numbers, one behind the other; of each the last two bytes count.
 use native.Mathlib.Omega.{arith}
-use Rattle.image.proofs.Pieces.{two-words}
-use Rattle.image.proofs.lay_numbers.Statement.{statement}
-use Rattle.image.proofs.lay_numbers.Tie as tie
+use Rattle.image_writing.proofs.Pieces.{two-words}
+use Rattle.image_writing.proofs.lay_numbers.Statement.{statement}
+use Rattle.image_writing.proofs.lay_numbers.Tie as tie
 
 returns : tie.Need-returns
 returns c =

@@ -1,9 +1,9 @@
 -- Each piece stands behind the one before it, to the end.
 use native.Mathlib.Omega.{arith}
 use Rattle.image.specs.Image.{sixFrom, imageOf}
-use Rattle.image.proofs.Pieces.{image-laid}
-use Rattle.image.proofs.write.Statement.{statement}
-use Rattle.image.proofs.write.Tie as tie
+use Rattle.image_writing.proofs.Pieces.{image-laid}
+use Rattle.image_writing.proofs.write.Statement.{statement}
+use Rattle.image_writing.proofs.write.Tie as tie
 
 returns : tie.Need-returns
 unfolding imageOf

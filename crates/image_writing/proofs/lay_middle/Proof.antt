@@ -1,9 +1,9 @@
 -- Eight bytes laid behind sixteen.
 use mathlib.Core.Path.{refl}
 use native.Mathlib.Omega.{arith}
-use Rattle.image.proofs.Pieces.{stands}
-use Rattle.image.proofs.lay_middle.Statement.{statement}
-use Rattle.image.proofs.lay_middle.Tie as tie
+use Rattle.image_writing.proofs.Pieces.{stands}
+use Rattle.image_writing.proofs.lay_middle.Statement.{statement}
+use Rattle.image_writing.proofs.lay_middle.Tie as tie
 
 returns : tie.Need-returns
 returns c =
