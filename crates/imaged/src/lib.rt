@@ -99,14 +99,14 @@ fn load_unknown(end: u16, image: &mut [u8], memory: &[u8], rows: &[u64], history
 {
     image_writing::write(
         image,
-        Machine::fresh(Edition::First, judge::end_of(end)),
+        Machine::fresh(Edition::First, soundness::end_of(end)),
         Trail {
             next: 0,
             kept: 0,
             ahead: 0,
         },
     );
-    if judge::sizes_fit(memory, rows, history) {
+    if fitting::sizes_fit(memory, rows, history) {
         10
     } else {
         9

@@ -6,8 +6,8 @@ use native.Mathlib.Omega.{arith}
 use lib.Dec.{leb, ltb}
 use borrow.Author.Tests.{leb-true, leb-false, le-leb, lt-leb}
 use Rattle.rules.specs.World.{places}
-use Rattle.judge.proofs.trail_fits.Statement.{statement}
-use Rattle.judge.proofs.trail_fits.Tie as tie
+use Rattle.fitting.proofs.trail_fits.Statement.{statement}
+use Rattle.fitting.proofs.trail_fits.Tie as tie
 
 beside : (kept ahead r : ℕ) → kept ≤ r → leb ahead (r - kept) ≡ leb (kept + ahead) r
 beside kept ahead r h = go (leb ahead (r - kept)) refl

@@ -1,7 +1,7 @@
 -- Each way out by the test that led there.
 use borrow.Author.Needs.{needs}
-use Rattle.judge.proofs.end_of.Statement.{statement}
-use Rattle.judge.proofs.end_of.Tie as tie
+use Rattle.soundness.proofs.end_of.Statement.{statement}
+use Rattle.soundness.proofs.end_of.Tie as tie
 
 returns : tie.Need-returns
 returns c = rw (← c .before .end-sound .ensures, c .if1 .taken)

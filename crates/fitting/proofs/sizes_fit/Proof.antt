@@ -5,8 +5,8 @@ use lib.Dec.{eqb}
 use lib.ListN.{length}
 use Rattle.rules.proofs.Parts.{below-of}
 use Rattle.rules.proofs.Turning.{bytes-below, sized-rows}
-use Rattle.judge.proofs.sizes_fit.Statement.{statement}
-use Rattle.judge.proofs.sizes_fit.Tie as tie
+use Rattle.fitting.proofs.sizes_fit.Statement.{statement}
+use Rattle.fitting.proofs.sizes_fit.Tie as tie
 
 returns : tie.Need-returns
 returns c =

@@ -6,8 +6,8 @@ use borrow.Author.Needs.{needs}
 use lib.ListN.{drop, length}
 use Rattle.rules.specs.State.{zeros}
 use Rattle.rules.proofs.Zeros.{zeros-stop, zeros-on, zeros-end}
-use Rattle.judge.proofs.clear_from.Statement.{statement}
-use Rattle.judge.proofs.clear_from.Tie as tie
+use Rattle.soundness.proofs.clear_from.Statement.{statement}
+use Rattle.soundness.proofs.clear_from.Tie as tie
 
 abbrev Inv-loop : tie.InvT-loop
 Inv-loop at stack k₀ k = (k ≤ 12) × (length stack ≡ 12) × (zeros (drop at stack) ≡ zeros (drop k stack))

@@ -1,8 +1,8 @@
 -- A depth above 12 is the first test that fails; else three of the others are the callees'.
 use borrow.Author.Needs.{needs}
 use borrow.Author.Tests.{le-leb, lt-leb}
-use Rattle.judge.proofs.is_sound.Statement.{statement}
-use Rattle.judge.proofs.is_sound.Tie as tie
+use Rattle.soundness.proofs.is_sound.Statement.{statement}
+use Rattle.soundness.proofs.is_sound.Tie as tie
 
 returns : tie.Need-returns
 returns c = rw (lt-leb _ 12 (c .if1 .taken))
