@@ -128,7 +128,7 @@ fn drawing_step(
         core,
         trail: trail::grown(trail, places),
         dark: acted.dark,
-        copied: keeping::count_of(change) as usize,
+        copied: fields::count_of(change) as usize,
     }
 }
 
@@ -173,7 +173,7 @@ fn other_step(
         core,
         trail: trail::grown(trail, places),
         dark: 0,
-        copied: keeping::count_of(change) as usize,
+        copied: fields::count_of(change) as usize,
     }
 }
 

@@ -5,8 +5,8 @@ use Prim.Native.Nat.{ℕ, _/_, _%_, _<_}
 use native.Mathlib.Omega.{arith}
 use borrow.Author.Needs.{needs}
 use Rattle.rules.specs.Number.{word}
-use Rattle.keeping.proofs.inputs_of.Statement.{statement}
-use Rattle.keeping.proofs.inputs_of.Tie as tie
+use Rattle.fields.proofs.inputs_of.Statement.{statement}
+use Rattle.fields.proofs.inputs_of.Tie as tie
 
 four-bytes : (keys random : ℕ) {high low : ℕ} → high ≡ keys / 256 % 256 → low ≡ keys % 256 → random < 256
     → high ∷ low ∷ random ∷ 1 ∷ [] ≡ word keys ++ (random % 256 ∷ 1 ∷ [])

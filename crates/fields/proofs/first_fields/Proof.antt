@@ -1,9 +1,9 @@
 -- The number is put together from its eight bytes.
 use native.Mathlib.Omega.{arith}
 use borrow.Author.Needs.{needs}
-use Rattle.keeping.proofs.Numbers.{eight-bytes}
-use Rattle.keeping.proofs.first_fields.Statement.{statement}
-use Rattle.keeping.proofs.first_fields.Tie as tie
+use Rattle.fields.proofs.Numbers.{eight-bytes}
+use Rattle.fields.proofs.first_fields.Statement.{statement}
+use Rattle.fields.proofs.first_fields.Tie as tie
 
 returns : tie.Need-returns
 returns c =
