@@ -60,7 +60,7 @@ pub fn after_call(image: &mut [u8], answer: Answer) -> u32
     if n == 0 {
         let machine = answer.machine;
         let trail = answer.trail;
-        image::write(image, machine, trail);
+        image_writing::write(image, machine, trail);
     }
     n
 }
@@ -86,7 +86,7 @@ fn load_known(
     let answer = chip8::load(edition, end, program, memory, rows, history);
     let m = answer.machine;
     let t = answer.trail;
-    image::write(image, m, t);
+    image_writing::write(image, m, t);
     let outcome = answer.outcome;
     number(outcome)
 }
@@ -97,16 +97,16 @@ fn load_unknown(end: u16, image: &mut [u8], memory: &[u8], rows: &[u64], history
     ensures { λ r. ⌜ (r ≡ unless (sizesFit (now (memory .entry)) (bytesOf (now (rows .entry))) (now (history .entry))) 9 10)
         × (now (image .exit) ≡ imageOf (fresh First (endOf end)) freshTrail) ⌝ }
 {
-    image::write(
+    image_writing::write(
         image,
-        Machine::fresh(Edition::First, judge::end_of(end)),
+        Machine::fresh(Edition::First, soundness::end_of(end)),
         Trail {
             next: 0,
             kept: 0,
             ahead: 0,
         },
     );
-    if judge::sizes_fit(memory, rows, history) {
+    if fitting::sizes_fit(memory, rows, history) {
         10
     } else {
         9

@@ -35,7 +35,7 @@ pub fn after_list(image: &mut [u8], answer: Answer) -> u32
     if image::in_order(image) {
         let machine = answer.machine;
         let trail = answer.trail;
-        image::write(image, machine, trail);
+        image_writing::write(image, machine, trail);
     }
     n
 }

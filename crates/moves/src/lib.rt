@@ -62,7 +62,7 @@ fn plain_step(
         (world (whole c (now (v .entry)) (now (stack .entry))) trail (now (memory .entry)) (bytesOf (now (rows .entry)))
         (now (history .entry))) r (now (v .exit)) (now (stack .entry)) (now (memory .entry)) (bytesOf (now (rows .entry))) (now (history .exit)) ⌝ }
 {
-    let places = judge::places(history);
+    let places = fitting::places(history);
     let next = trail.next;
     keeping::keep(
         history,
@@ -107,7 +107,7 @@ fn drawing_step(
     let Outcome::Done = outcome else {
         return refused(outcome, c, trail);
     };
-    let places = judge::places(history);
+    let places = fitting::places(history);
     let next = trail.next;
     let change = transfers::rows_change(n, transfers::row_of(v, y));
     keeping::keep(
@@ -128,7 +128,7 @@ fn drawing_step(
         core,
         trail: trail::grown(trail, places),
         dark: acted.dark,
-        copied: keeping::count_of(change) as usize,
+        copied: fields::count_of(change) as usize,
     }
 }
 
@@ -154,7 +154,7 @@ fn other_step(
     let Outcome::Done = outcome else {
         return refused(outcome, c, trail);
     };
-    let places = judge::places(history);
+    let places = fitting::places(history);
     let change = transfers::change_of(op, c, v);
     let next = trail.next;
     keeping::keep(
@@ -173,7 +173,7 @@ fn other_step(
         core,
         trail: trail::grown(trail, places),
         dark: 0,
-        copied: keeping::count_of(change) as usize,
+        copied: fields::count_of(change) as usize,
     }
 }
 
@@ -264,7 +264,7 @@ pub fn tick(
         (world (whole c (now (v .entry)) (now (stack .entry))) trail memory picture (now (history .entry))))) (r .outcome)
         (whole (r .core) (now (v .entry)) (now (stack .entry))) (r .trail) memory picture (now (history .exit))) ⌝ }
 {
-    let places = judge::places(history);
+    let places = fitting::places(history);
     let at = trail.next;
     keeping::keep(history, at, c, v, stack, Change::Nothing, Action::Tick);
     Moved {

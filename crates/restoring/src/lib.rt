@@ -75,7 +75,7 @@ fn undo(
             trail,
         };
     }
-    let last = trail::place_before(trail.next, judge::places(history));
+    let last = trail::place_before(trail.next, fitting::places(history));
     let at = history::PLACE * last;
     let end = at + history::PLACE;
     let old = history::read(&history[at..end], machine);

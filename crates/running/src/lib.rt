@@ -182,7 +182,7 @@ pub fn run(
         (world machine trail (now (memory .entry)) (bytesOf (now (rows .entry))) (now (history .entry))))
         × (r .copied ≤ 256 * r .accepted) ⌝ }
 {
-    let lists = judge::lists_fit(ticks.len(), keys.len(), randoms.len());
+    let lists = fitting::lists_fit(ticks.len(), keys.len(), randoms.len());
     let outcome = judge::admitted(machine, trail, memory, rows, history, lists);
     let Outcome::Done = outcome else {
         return Ran {
