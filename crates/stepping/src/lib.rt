@@ -73,7 +73,7 @@ pub fn tick(machine: Machine, trail: Trail, history: &mut [u8]) -> Answer
     };
     let v = machine.v;
     let stack = machine.stack;
-    let moved = moves::tick(parts::core_of(machine), &v, &stack, trail, history);
+    let moved = ticking::tick(parts::core_of(machine), &v, &stack, trail, history);
     let ticked = moved.outcome;
     let core = moved.core;
     let grown = moved.trail;

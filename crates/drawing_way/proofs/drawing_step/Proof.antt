@@ -10,9 +10,8 @@ use Rattle.rules.specs.declared.Op.{Op}
 use Rattle.rules.specs.declared.Op.the-variants.{Draw}
 use Rattle.rules.specs.declared.Machine.{Machine}
 use Rattle.rules.specs.Refusal.{number}
-use Rattle.rules.specs.Memory.{part, over}
-use Rattle.rules.specs.Record.{old, count}
-use Rattle.rules.specs.Step.{refusalOf, changeOf, rowsChange, rowBytes, after}
+use Rattle.rules.specs.Memory.{over}
+use Rattle.rules.specs.Step.{refusalOf, changeOf, after}
 use Rattle.rules.specs.Dark.{darkOf}
 use Rattle.rules.specs.World.{World, world}
 use Rattle.rules.specs.Rows.{bytesOf}
@@ -20,9 +19,10 @@ use Rattle.rules.proofs.Choices.{both-zero}
 use Rattle.rules.proofs.Turning.{picture-rows}
 use Rattle.parts.specs.Whole.{whole}
 use Rattle.act.proofs.Laws.{draw-reach, draw-passes}
-use Rattle.moves.proofs.OneStep.{verdict, tickable, place-inside, back, reached-refused, fits, step-kept, made, rows-old, pattern-length}
-use Rattle.moves.proofs.drawing_step.Statement.{statement}
-use Rattle.moves.proofs.drawing_step.Tie as tie
+use Rattle.ways.proofs.OneStep.{verdict, in-range, place-inside, back, reached-refused, step-kept, made}
+use Rattle.drawing_way.proofs.Pattern.{fits, rows-old, pattern-length}
+use Rattle.drawing_way.proofs.drawing_step.Statement.{statement}
+use Rattle.drawing_way.proofs.drawing_step.Tie as tie
 
 -- the world that is handed in, its machine, and the instruction
 abbrev machine : tie.Start → Machine
@@ -92,7 +92,7 @@ grown-requires : tie.Need-grown-requires
 grown-requires c κs =
     let placed = c .before .before .before .before .before .before .before .before .before .before .before .before .before .before .before .before .before .before in
     let s = placed .before .before .before .before .before .before .before .before .before .before in
-    rw (placed .places .ensures) ((tickable (given s) (s .pre .ready)) .range)
+    rw (placed .places .ensures) (in-range (given s) (s .pre .ready))
 
 draw-requires : tie.Need-draw-requires
 draw-requires c κs =

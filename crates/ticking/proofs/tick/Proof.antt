@@ -9,8 +9,8 @@ use Rattle.rules.specs.Memory.{over}
 use Rattle.rules.specs.Call.{ticked}
 use Rattle.parts.specs.Whole.{whole}
 use Rattle.keeping.proofs.Laid.{nothing-old}
-use Rattle.moves.proofs.tick.Statement.{statement}
-use Rattle.moves.proofs.tick.Tie as tie
+use Rattle.ticking.proofs.tick.Statement.{statement}
+use Rattle.ticking.proofs.tick.Tie as tie
 
 returns : tie.Need-returns
 unfolding ticked

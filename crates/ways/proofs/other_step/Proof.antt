@@ -1,6 +1,5 @@
 -- It is refused by what was judged; else its record is kept in its two parts, and it acts.
 use mathlib.Core.Path.{_≡_, refl, sym, ap, _∙_}
-use Prim.Native.Nat.{ℕ}
 use native.Mathlib.Omega.{arith}
 use lib.ListN.{length}
 use borrow.Author.Needs.{needs}
@@ -10,9 +9,9 @@ use Rattle.rules.specs.World.{World, world}
 use Rattle.rules.specs.Rows.{bytesOf}
 use Rattle.rules.proofs.Turning.{picture-rows}
 use Rattle.parts.specs.Whole.{whole}
-use Rattle.moves.proofs.OneStep.{verdict, tickable, place-inside, back, reached-refused, step-reaches, step-kept, accepted, copied-few, made, other-dark}
-use Rattle.moves.proofs.other_step.Statement.{statement}
-use Rattle.moves.proofs.other_step.Tie as tie
+use Rattle.ways.proofs.OneStep.{verdict, in-range, place-inside, back, reached-refused, step-reaches, step-kept, accepted, made, other-dark}
+use Rattle.ways.proofs.other_step.Statement.{statement}
+use Rattle.ways.proofs.other_step.Tie as tie
 
 -- the world that is handed in
 abbrev machine : tie.Start → Machine
@@ -72,7 +71,7 @@ grown-requires : tie.Need-grown-requires
 grown-requires c κs =
     let placed = c .before .before .before .before .before .before .before .before .before .before .before .before .before .before .before .before .before .before .before .before .before .before .before in
     let s = placed .before .before .before .before .before .before .before .before .before in
-    rw (placed .places .ensures) ((tickable (given s) (s .pre .1 .ready)) .range)
+    rw (placed .places .ensures) (in-range (given s) (s .pre .1 .ready))
 
 returns-2 : tie.Need-returns-2
 returns-2 c =

@@ -10,7 +10,7 @@ use Rattle.rules.specs.Copied.{stepCopied}
 use Rattle.rules.specs.Promise.{Gives}
 use Rattle.rules.proofs.Ready.{Ready}
 use Rattle.parts.specs.Whole.{whole}
-use Rattle.moves.specs.declared.Stepped.{Stepped}
+use Rattle.ways.specs.declared.Stepped.{Stepped}
 
 -- the world passed the tests 9 and 10, both bytes at PC are below the end, and they are this instruction
 pub record Reached (op : Op) (w : World) : Type 0 where

@@ -13,9 +13,10 @@ use Rattle.rules.specs.Call.{grown, ticked}
 use Rattle.rules.specs.Run.{tickedBy, unrefused}
 use Rattle.rules.specs.Promise.{Gives}
 use Rattle.rules.proofs.Choices.{by-test}
-use Rattle.rules.proofs.Ready.{next-below}
+use Rattle.rules.proofs.Ready.{Ready, next-below}
 use Rattle.trail.specs.InRange.{InRange}
-use Rattle.moves.specs.Inner.{Tickable}
+use Rattle.ways.proofs.OneStep.{in-range}
+use Rattle.ticking.specs.Tickable.{Tickable}
 
 -- the world that a call gives
 pub gives-world : (a : Answer) (o : Outcome) (m : Machine) (t : Trail) (mem pic his : List ℕ) → Gives a o m t mem pic his
@@ -33,6 +34,10 @@ world-gives w w′ e =
       picture = ap (λ (v : World). v .picture) e;
       history = ap (λ (v : World). v .history) e;
     }
+
+-- a world that passed the tests 9 and 10 can be ticked
+pub tickable : (w : World) → Ready w → Tickable (w .machine) (w .trail) (w .history)
+tickable w h = record { shallow = h .good .machine .calls .most; most = h .most; range = in-range w h }
 
 grown-range : (t : Trail) (r : ℕ) → InRange t r → InRange (grown r t) r
 grown-range t r h =

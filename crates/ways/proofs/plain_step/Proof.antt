@@ -1,5 +1,5 @@
 -- The record keeps no old bytes, the instruction is the definition's, and where the picture stays so does the number of lit spots.
-use mathlib.Core.Path.{_≡_, refl, sym, ap, _∙_}
+use mathlib.Core.Path.{refl, ap, _∙_}
 use mathlib.Core.List.{List}
 use Prim.Native.Nat.{ℕ, _*_}
 use native.Mathlib.Omega.{arith}
@@ -16,9 +16,9 @@ use Rattle.rules.specs.Rows.{bytesOf}
 use Rattle.parts.specs.Whole.{whole}
 use Rattle.keeping.proofs.Laid.{nothing-old}
 use Rattle.act.proofs.Laws.{still}
-use Rattle.moves.proofs.OneStep.{tickable, place-inside, plain-passes, made}
-use Rattle.moves.proofs.plain_step.Statement.{statement}
-use Rattle.moves.proofs.plain_step.Tie as tie
+use Rattle.ways.proofs.OneStep.{in-range, place-inside, plain-passes, made}
+use Rattle.ways.proofs.plain_step.Statement.{statement}
+use Rattle.ways.proofs.plain_step.Tie as tie
 
 -- the world that is handed in
 abbrev given : tie.Start → World
@@ -38,7 +38,7 @@ grown-requires : tie.Need-grown-requires
 grown-requires c κs =
     let placed = c .before .before .before .before .before .before .before .before in
     let s = placed .before .before .before .before .before in
-    rw (placed .places .ensures) ((tickable (given s) (s .pre .ready)) .range)
+    rw (placed .places .ensures) (in-range (given s) (s .pre .ready))
 
 returns : tie.Need-returns
 unfolding changeOf after darkOf

@@ -3,8 +3,7 @@ use mathlib.Core.Path.{_≡_, refl, sym, ap, _∙_}
 use mathlib.Core.List.{List}
 use Prim.Native.Nat.{ℕ, _+_, _-_, _*_, _≤_, _<_}
 use native.Mathlib.Omega.{arith}
-use lib.Dec.{eqb}
-use lib.ListN.{length, getD, length-take}
+use lib.ListN.{length}
 use borrow.Author.Tests.{le-leb, lt-leb, eq-eqb, ne-eqb}
 use Rattle.rules.specs.declared.Action.{Action}
 use Rattle.rules.specs.declared.Action.the-variants.{Step}
@@ -13,31 +12,29 @@ use Rattle.rules.specs.declared.Trail.{Trail}
 use Rattle.rules.specs.declared.Op.{Op}
 use Rattle.rules.specs.declared.Op.the-variants.{Plain, AwaitKey, Call, Return, Clear, Draw, Decimal, Store, Fetch}
 use Rattle.rules.specs.declared.Op.the-variants.{Unlisted, MachineCode}
-use Rattle.rules.specs.declared.Change.{Change}
 use Rattle.rules.specs.declared.Simple.{Simple}
 use Rattle.rules.specs.declared.Outcome.{Outcome}
 use Rattle.rules.specs.declared.Refusal.{Refusal}
 use Rattle.rules.specs.declared.Refusal.the-variants.{PcPastEnd}
 use Rattle.rules.specs.declared.Outcome.the-variants.{Done, Refused}
-use Rattle.rules.specs.Number.{pick, orLater}
+use Rattle.rules.specs.Number.{orLater}
 use Rattle.rules.specs.Refusal.{number}
-use Rattle.rules.specs.Memory.{part, over}
+use Rattle.rules.specs.Memory.{over}
 use Rattle.rules.specs.Record.{old, count, recordWith, recordOf}
 use Rattle.rules.specs.Rows.{bytesOf}
-use Rattle.rules.specs.Step.{refusalOf, litRefusal, changeOf, rowsChange, rowBytes, after, pictureAfter}
+use Rattle.rules.specs.Step.{refusalOf, litRefusal, changeOf, after, pictureAfter}
 use Rattle.rules.specs.World.{World, world, boardOf, places}
 use Rattle.rules.specs.Call.{opAt, step, stepped, stepRefusal, grown}
 use Rattle.rules.specs.Dark.{darkOf, stepDark}
 use Rattle.rules.specs.Copied.{stepCopied}
 use Rattle.rules.specs.Promise.{Gives}
-use Rattle.rules.proofs.Parts.{below-get, part-length}
-use Rattle.rules.proofs.Choices.{both-zero, by-test}
+use Rattle.rules.proofs.Choices.{both-zero}
 use Rattle.rules.proofs.Counted.{same-passes}
 use Rattle.rules.proofs.Ready.{Ready, step-own, stepped-follows}
 use Rattle.rules.proofs.Undo.{Fits}
-use Rattle.rules.proofs.Follow.{OpFits, decode-fits}
 use Rattle.rules.proofs.Copied.{table-counts, table-few}
 use Rattle.rules.proofs.Given.{Back, given-refused, answered-done, refused-some}
+use Rattle.trail.specs.InRange.{InRange}
 use Rattle.transfers.specs.Other.{Other}
 use Rattle.act.specs.Accepted.{Accepted}
 use Rattle.act.specs.Became.{acted, Became}
@@ -45,17 +42,13 @@ use Rattle.keeping.specs.Writable.{blank, Reaches}
 use Rattle.keeping.proofs.Laid.{kept}
 use Rattle.parts.specs.Whole.{whole}
 use Rattle.parts.specs.declared.Core.{Core}
-use Rattle.moves.specs.declared.Stepped.{Stepped}
-use Rattle.moves.specs.Inner.{Tickable}
-use Rattle.moves.specs.Steps.{Reached, Made}
-use Rattle.moves.proofs.Keep.{reaches}
+use Rattle.ways.specs.declared.Stepped.{Stepped}
+use Rattle.ways.specs.Steps.{Reached, Made}
+use Rattle.ways.proofs.Keep.{reaches}
 
 module _ (w : World) (h : Ready w) where
   abbrev m : Machine
   m = w .machine
-
-  byte : (a : ℕ) → getD (w .memory) a 0 < 256
-  byte a = below-get (omega arith) (h .good .memory .below) a
 
   -- ---- what is left of the judgement
 
@@ -108,13 +101,8 @@ module _ (w : World) (h : Ready w) where
   pub place-inside : 292 * w .trail .next + 292 ≤ length (w .history)
   place-inside = omega (arith, h .next)
 
-  pub tickable : Tickable m (w .trail) (w .history)
-  tickable =
-      record {
-        shallow = h .good .machine .calls .most;
-        most = h .most;
-        range = record { next = h .next; kept = omega (arith, h .limit); few = omega (arith, h .most) };
-      }
+  pub in-range : InRange (w .trail) (places (w .history))
+  in-range = record { next = h .next; kept = omega (arith, h .limit); few = omega (arith, h .most) }
 
   module _ (op : Op) (e : op ≡ opAt (boardOf w)) (near : m .pc ≤ m .end - 2) (allowed : verdict op ≡ 0) where
     passes : stepRefusal w ≡ 0
@@ -191,10 +179,6 @@ module _ (w : World) (op : Op) (r : Reached op w) where
     judged-copied w (r .ready) op f (r .there) (r .near) says,
   )
 
-  -- a pattern has at most fifteen bytes
-  pub fits : OpFits op
-  fits = rw (r .there) (decode-fits _ _ _ (byte w (r .ready) (w .machine .pc)) (byte w (r .ready) (w .machine .pc + 1)))
-
   pub made : verdict w (r .ready) op ≡ 0 → (keys random : ℕ) (s : Stepped) (v stack mem pic his : List ℕ)
       → s .outcome ≡ Done
       → Became (acted op keys random (w .machine) (w .memory) (w .picture)) (whole (s .core) v stack) mem pic
@@ -216,18 +200,6 @@ module _ (w : World) (op : Op) (r : Reached op w) where
 pub plain-passes : (w : World) (h : Ready w) (s : Simple) → verdict w h (Plain s) ≡ 0
 unfolding refusalOf after
 plain-passes w h s = same-passes (w .machine .lit) (w .picture) (h .good .machine .lit)
-
--- the rows that a drawing keeps are those that it changes
-pub rows-old : (n row : ℕ) (mem pic : List ℕ) → (old (rowsChange n row) mem pic ≡ part pic (8 * row) (rowBytes n row)) × (count (rowsChange n row) ≡ rowBytes n row)
-rows-old n row mem pic =
-    by-test (λ (c : Change). (old c mem pic ≡ part pic (8 * row) (rowBytes n row)) × (count c ≡ rowBytes n row)) n 0
-    (λ e. let none : rowBytes n row ≡ 0 = omega arith in rw none (refl, refl)) (λ ne. (refl, refl))
-
--- a pattern that is in memory is as long as it was asked for
-pub pattern-length : (mem : List ℕ) (i n : ℕ) → length mem ≡ 4096 → pick (eqb n 0) 0 (i + n) ≤ 4096 → length (part mem i n) ≡ n
-pattern-length mem i n sized =
-    by-test (λ (end : ℕ). end ≤ 4096 → length (part mem i n) ≡ n) n 0
-    (λ e h. rw e (simp length-take (omega arith))) (λ ne h. part-length mem i n (omega arith))
 
 -- only a drawing darkens spots
 pub other-dark : (op : Op) (m : Machine) (mem pic : List ℕ) → Other op → darkOf op m mem pic ≡ 0

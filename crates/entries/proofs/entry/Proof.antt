@@ -4,10 +4,9 @@ use Rattle.rules.specs.World.{World, world}
 use Rattle.rules.specs.Rows.{bytesOf}
 use Rattle.rules.proofs.Ready.{ticks-ready}
 use Rattle.parts.specs.Whole.{whole}
-use Rattle.moves.proofs.OneStep.{tickable}
-use Rattle.running.proofs.Ticks.{gives-world}
-use Rattle.running.proofs.entry.Statement.{statement}
-use Rattle.running.proofs.entry.Tie as tie
+use Rattle.entries.proofs.Ticks.{gives-world, tickable}
+use Rattle.entries.proofs.entry.Statement.{statement}
+use Rattle.entries.proofs.entry.Tie as tie
 
 -- the world that is handed in
 abbrev given : tie.Start → World

@@ -8,10 +8,10 @@ use lib.ListN.{length}
 use Rattle.rules.specs.World.{world}
 use Rattle.rules.specs.Run.{tickedBy}
 use Rattle.parts.specs.Whole.{whole}
-use Rattle.moves.specs.Inner.{Tickable}
-use Rattle.running.proofs.Ticks.{gives-world, world-gives, again-tickable, one-less}
-use Rattle.running.proofs.ticks_of.Statement.{statement}
-use Rattle.running.proofs.ticks_of.Tie as tie
+use Rattle.ticking.specs.Tickable.{Tickable}
+use Rattle.entries.proofs.Ticks.{gives-world, world-gives, again-tickable, one-less}
+use Rattle.entries.proofs.ticks_of.Statement.{statement}
+use Rattle.entries.proofs.ticks_of.Tie as tie
 
 abbrev Inv-loop : tie.InvT-loop
 Inv-loop v stack history₀ count c₀ t₀ left₀ history c t left =
