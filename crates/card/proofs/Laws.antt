@@ -1,5 +1,5 @@
 -- A call that leaves everything as it came: each part by itself.
-use mathlib.Core.Path.{_≡_, refl}
+use mathlib.Core.Path.{refl}
 use mathlib.Core.List.{List}
 use Prim.Native.Nat.{ℕ}
 use Rattle.image.specs.Image.{trailOf}

@@ -237,7 +237,7 @@ pub extern "C" fn card_page(image: &[u8], page: &mut [u8]) -> u32
     let standing = image::read(image);
     let machine = standing.machine;
     let outcome = stepper::draw(machine, page);
-    imaged::number(outcome)
+    image_after::number(outcome)
 }
 
 #[no_mangle]
@@ -245,7 +245,7 @@ pub extern "C" fn card_panel(picture: &[u8], panel: &mut [u8]) -> u32
     ensures { λ r. ⌜ LeavesPanel r (now (picture .entry)) (now (panel .entry)) (now (panel .exit)) ⌝ }
 {
     let outcome = panel::panel(picture, panel);
-    imaged::number(outcome)
+    image_after::number(outcome)
 }
 
 #[no_mangle]
@@ -253,7 +253,7 @@ pub extern "C" fn card_rows(picture: &[u8], rows: &mut [u64]) -> u32
     ensures { λ r. ⌜ LeavesRows r (now (picture .entry)) (now (rows .entry)) (now (rows .exit)) ⌝ }
 {
     let outcome = chip8::to_rows(picture, rows);
-    imaged::number(outcome)
+    image_after::number(outcome)
 }
 
 #[no_mangle]
@@ -261,5 +261,5 @@ pub extern "C" fn card_bytes(rows: &[u64], picture: &mut [u8]) -> u32
     ensures { λ r. ⌜ LeavesBytes r (now (rows .entry)) (now (picture .entry)) (now (picture .exit)) ⌝ }
 {
     let outcome = chip8::to_bytes(rows, picture);
-    imaged::number(outcome)
+    image_after::number(outcome)
 }

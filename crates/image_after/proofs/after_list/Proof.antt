@@ -2,8 +2,8 @@
 use native.Mathlib.Omega.{arith}
 use mathlib.Core.Path.{sym, _∙_}
 use borrow.Author.Needs.{needs}
-use Rattle.imaged_lists.proofs.after_list.Statement.{statement}
-use Rattle.imaged_lists.proofs.after_list.Tie as tie
+use Rattle.image_after.proofs.after_list.Statement.{statement}
+use Rattle.image_after.proofs.after_list.Tie as tie
 
 returns : tie.Need-returns
 returns c =

@@ -3,8 +3,8 @@ use native.Mathlib.Omega.{arith}
 use mathlib.Core.Path.{sym, _∙_}
 use borrow.Author.Tests.{eq-eqb, ne-eqb}
 use borrow.Author.Needs.{needs}
-use Rattle.imaged.proofs.after_call.Statement.{statement}
-use Rattle.imaged.proofs.after_call.Tie as tie
+use Rattle.image_after.proofs.after_call.Statement.{statement}
+use Rattle.image_after.proofs.after_call.Tie as tie
 
 returns : tie.Need-returns
 returns c =
