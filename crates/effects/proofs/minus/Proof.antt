@@ -2,8 +2,8 @@
 use mathlib.Core.Path.{_≡_}
 use Prim.Native.Nat.{_+_, _-_, _%_}
 use borrow.Author.Needs.{needs}
-use Rattle.instructions.proofs.minus.Statement.{statement}
-use Rattle.instructions.proofs.minus.Tie as tie
+use Rattle.effects.proofs.minus.Statement.{statement}
+use Rattle.effects.proofs.minus.Tie as tie
 
 returns : tie.Need-returns
 returns c =

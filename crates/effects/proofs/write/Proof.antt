@@ -1,7 +1,7 @@
 -- Each arm by the effect that was matched, and what the callee ensures.
 use borrow.Author.Needs.{needs}
-use Rattle.instructions.proofs.write.Statement.{statement}
-use Rattle.instructions.proofs.write.Tie as tie
+use Rattle.effects.proofs.write.Statement.{statement}
+use Rattle.effects.proofs.write.Tie as tie
 
 pub write-spec : {M : Type 1} → statement M
 write-spec =

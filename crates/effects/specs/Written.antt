@@ -2,8 +2,8 @@
 use Rattle.rules.specs.declared.Machine.{Machine}
 use Rattle.rules.specs.State.{withReg, withPc, withI, withTimers}
 use Rattle.rules.specs.Registers.{onward}
-use Rattle.instructions.specs.declared.Effect.{Effect}
-use Rattle.instructions.specs.declared.Effect.the-variants.{Next, Result, Flagged, Index, Clock}
+use Rattle.effects.specs.declared.Effect.{Effect}
+use Rattle.effects.specs.declared.Effect.the-variants.{Next, Result, Flagged, Index, Clock}
 
 abbrev pub written : Effect → Machine → Machine
 written (Next pc) m = withPc pc m
