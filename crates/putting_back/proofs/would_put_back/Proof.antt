@@ -3,8 +3,8 @@ use mathlib.Core.Path.{refl}
 use native.Mathlib.Omega.{arith}
 use borrow.Author.Needs.{needs}
 use Rattle.rules.proofs.Parts.{part-length, lent-part}
-use Rattle.restoring.proofs.would_put_back.Statement.{statement}
-use Rattle.restoring.proofs.would_put_back.Tie as tie
+use Rattle.putting_back.proofs.would_put_back.Statement.{statement}
+use Rattle.putting_back.proofs.would_put_back.Tie as tie
 
 part-would-put-end : tie.Need-part-would-put-end
 part-would-put-end c = let change = c .before in let k = rw (change .change .given .1) at (change .before .before .before .before .pre .2) in omega (arith, k .1)

@@ -3,8 +3,8 @@ use mathlib.Core.Path.{refl}
 use native.Mathlib.Omega.{arith}
 use Rattle.rules.proofs.Parts.{part-length, lent-part}
 use borrow.Author.Needs.{needs}
-use Rattle.restoring.proofs.put_back.Statement.{statement}
-use Rattle.restoring.proofs.put_back.Tie as tie
+use Rattle.putting_back.proofs.put_back.Statement.{statement}
+use Rattle.putting_back.proofs.put_back.Tie as tie
 
 part-lay-end : tie.Need-part-lay-end
 part-lay-end c = let k = rw (c .before .before .change .given .1) at (c .before .before .before .before .before .before .before .pre .3) in omega (arith, k .1)
