@@ -4,7 +4,6 @@ use mathlib.Core.List.{List}
 use Prim.Native.Nat.{ℕ, _+_, _*_, _%_, _≤_}
 use native.Mathlib.Omega.{arith}
 use lib.ListN.{length, getD}
-use borrow.Author.Needs.{needs}
 use Rattle.rules.specs.declared.Action.the-variants.{Step}
 use Rattle.rules.specs.declared.Op.{Op}
 use Rattle.rules.specs.declared.Op.the-variants.{Draw}
@@ -136,4 +135,4 @@ returns-2 c =
     (rw (← pattern .pattern .ensures) (drawn .1 .1 .0 .0)) (omega (arith, drawn .1 .1 .0 .1, long, short s)) (rw change at (c .count-of .ensures))
 
 pub drawing-step-spec : {M : Type 1} → statement M
-drawing-step-spec = tie.close (tie.spec drawable-requires (search needs) (search needs) (search needs) (search needs) returns (search needs) (search needs) (search needs) keep-requires (search needs) (search needs) pattern-requires draw-requires grown-requires (search needs) (search needs) (search needs) (search needs) returns-2)
+drawing-step-spec = tie.close (tie.spec drawable-requires (λ c. omega arith) (λ c. omega arith) (λ c. omega arith) (λ c. omega arith) returns (λ c. omega arith) (λ c. omega arith) (λ c. omega arith) keep-requires (λ c. omega arith) (λ c. omega arith) pattern-requires draw-requires grown-requires (λ c. omega arith) (λ c. omega arith) (λ c. omega arith) (λ c. omega arith) returns-2)

@@ -4,7 +4,6 @@ use mathlib.Core.List.{[], _∷_}
 use native.Mathlib.Omega.{arith}
 use denote.Enum.Declared.{tagOf}
 use types.Run.{OneOf, miss}
-use borrow.Author.Needs.{needs}
 use Rattle.rules.proofs.Op.{the-type}
 use Rattle.rules.specs.declared.Op.{Op}
 use Rattle.rules.specs.declared.Op.the-variants.{Plain, AwaitKey, Call, Return, Clear, Draw, Decimal, Store, Fetch}
@@ -76,7 +75,7 @@ other-step-requires c κs =
 
 pub step-spec : {M : Type 1} → statement M
 step-spec =
-    tie.close (tie.spec (search needs) (search needs) sub-if1 (search needs) returns (search needs) (search needs) (search needs) (search needs) (search needs)
-    plain-step-requires (search needs) (search needs) (search needs) (λ c. c .before .before .plain-step .ensures)
-    (search needs) drawing-step-requires (search needs) (search needs) (search needs) (λ c. c .before .before .before .before .drawing-step .ensures)
-    other-step-requires (search needs) (search needs) (search needs) (λ c. c .before .before .before .before .before .before .other-step .ensures))
+    tie.close (tie.spec (λ c. omega arith) (λ c. omega arith) sub-if1 (λ c. omega arith) returns (λ c. omega arith) (λ c. omega arith) (λ c. omega arith) (λ c. omega arith) (λ c. omega arith)
+    plain-step-requires (λ c. omega arith) (λ c. omega arith) (λ c. omega arith) (λ c. c .before .before .plain-step .ensures)
+    (λ c. omega arith) drawing-step-requires (λ c. omega arith) (λ c. omega arith) (λ c. omega arith) (λ c. c .before .before .before .before .drawing-step .ensures)
+    other-step-requires (λ c. omega arith) (λ c. omega arith) (λ c. omega arith) (λ c. c .before .before .before .before .before .before .other-step .ensures))

@@ -2,7 +2,6 @@
 use mathlib.Core.Path.{_≡_, refl, sym, ap, _∙_}
 use native.Mathlib.Omega.{arith}
 use lib.ListN.{length}
-use borrow.Author.Needs.{needs}
 use Rattle.rules.specs.declared.Machine.{Machine}
 use Rattle.rules.specs.Refusal.{number}
 use Rattle.rules.specs.World.{World, world}
@@ -92,4 +91,4 @@ returns-2 c =
     (rw change at (c .count-of .ensures))
 
 pub other-step-spec : {M : Type 1} → statement M
-other-step-spec = tie.close (tie.spec judged-requires (search needs) (search needs) (search needs) (search needs) returns (search needs) (search needs) keep-requires keep-old-requires act-requires grown-requires (search needs) (search needs) (search needs) (search needs) (search needs) returns-2)
+other-step-spec = tie.close (tie.spec judged-requires (λ c. omega arith) (λ c. omega arith) (λ c. omega arith) (λ c. omega arith) returns (λ c. omega arith) (λ c. omega arith) keep-requires keep-old-requires act-requires grown-requires (λ c. omega arith) (λ c. omega arith) (λ c. omega arith) (λ c. omega arith) (λ c. omega arith) returns-2)

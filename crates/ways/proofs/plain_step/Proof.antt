@@ -3,7 +3,6 @@ use mathlib.Core.Path.{refl, ap, _∙_}
 use mathlib.Core.List.{List}
 use Prim.Native.Nat.{ℕ, _*_}
 use native.Mathlib.Omega.{arith}
-use borrow.Author.Needs.{needs}
 use Rattle.rules.specs.declared.Action.the-variants.{Step}
 use Rattle.rules.specs.declared.Op.the-variants.{Plain}
 use Rattle.rules.specs.declared.Wait.the-variants.{Idle}
@@ -57,4 +56,4 @@ returns c =
     refl (omega arith) refl
 
 pub plain-step-spec : {M : Type 1} → statement M
-plain-step-spec = tie.close (tie.spec (search needs) keep-requires simple-requires (search needs) grown-requires (search needs) returns)
+plain-step-spec = tie.close (tie.spec (λ c. omega arith) keep-requires simple-requires (λ c. omega arith) grown-requires (λ c. omega arith) returns)
