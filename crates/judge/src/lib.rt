@@ -16,7 +16,7 @@ use rules::Outcome;
 use rules::Refusal;
 use rules::Trail;
 
-// It also tells what the types say of the state's numbers.
+// It tells of the state's numbers what `is_sound` tells.
 pub fn soundly(m: Machine, t: Trail, history: &[u8]) -> bool
     ensures { λ r. ⌜ r ≡ (state.sound m && fit.trailFits t (now (history .entry))) ⌝ }
     ensures { λ r. ⌜ TypedMachine m ⌝ }

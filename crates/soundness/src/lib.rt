@@ -3,6 +3,7 @@ ghost use mathlib.Core.Path.{_≡_};
 ghost use Prim.Native.Nat.{_≤_};
 ghost use lib.ListN.{drop};
 ghost use Rattle.rules.specs.State as state;
+ghost use Rattle.rules.specs.Typed.{TypedMachine};
 ghost use Rattle.rules.specs.Load.{endOf};
 use rules::Machine;
 use rules::Wait;
@@ -48,8 +49,10 @@ fn clear_from(stack: [u16; Machine::STACK], at: usize) -> bool
     true
 }
 
+// It also tells what the types say of the state's numbers.
 pub fn is_sound(m: Machine) -> bool
     ensures { λ r. ⌜ r ≡ state.sound m ⌝ }
+    ensures { λ r. ⌜ TypedMachine m ⌝ }
 {
     let depth = m.depth as usize;
     if Machine::STACK < depth {
