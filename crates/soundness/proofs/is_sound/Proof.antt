@@ -27,14 +27,13 @@ typed c =
     }
 
 returns : tie.Need-returns
-returns c = (rw (lt-leb _ 12 (c .if1 .taken)), typed (c .before))
+returns c = (rw (lt-leb _ 12 (c .if1 .taken)), typed (c .before .before))
 
 returns-2 : tie.Need-returns-2
 returns-2 c =
-    let held = c .before .before in
-    (
+    let held = c .before .before in (
       rw (held .before .clear-from .ensures, held .held-sound .ensures, c .end-sound .ensures, le-leb _ 12 (held .before .before .before .if1 .left)),
-      typed (held .before .before .before .before)
+      typed (held .before .before .before .before .before),
     )
 
 pub is-sound-spec : {M : Type 1} → statement M
