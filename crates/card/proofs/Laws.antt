@@ -1,23 +1,13 @@
--- Four numbers set one by one, and a call that leaves everything as it came.
-use mathlib.Core.Path.{_≡_, refl}
-use mathlib.Core.List.{List, [], _∷_}
+-- A call that leaves everything as it came: each part by itself.
+use mathlib.Core.Path.{refl}
+use mathlib.Core.List.{List}
 use Prim.Native.Nat.{ℕ}
-use native.Mathlib.Omega.{arith}
-use lib.ListN.{length, set}
 use Rattle.image.specs.Image.{trailOf}
 use Rattle.imaged.specs.Imaged.{Leaves}
 use Rattle.imaged_salvage.specs.Salvaged.{LeavesSalvage}
 use Rattle.imaged_plain.specs.PlainOn.{LeavesPlain}
 use Rattle.salvage.specs.Salvage.{refused}
 use Rattle.card.specs.Card.{untouched}
-
-pub four : (l : List ℕ) (a b c d : ℕ) → length l ≡ 4 → set (set (set (set l 0 a) 1 b) 2 c) 3 d ≡ a ∷ b ∷ c ∷ d ∷ []
-four [] a b c d e = absurd (omega arith)
-four (w ∷ []) a b c d e = absurd (omega arith)
-four (w ∷ x ∷ []) a b c d e = absurd (omega arith)
-four (w ∷ x ∷ y ∷ []) a b c d e = absurd (omega arith)
-four (w ∷ x ∷ y ∷ z ∷ []) a b c d e = refl
-four (w ∷ x ∷ y ∷ z ∷ u ∷ l) a b c d e = absurd (omega arith)
 
 pub as-it-came : (n : ℕ) (image mem pic his : List ℕ) → Leaves (untouched n image mem pic his) n image mem pic his
 as-it-came n image mem pic his = record { says = refl; image = refl; memory = refl; picture = refl; history = refl }

@@ -10,7 +10,8 @@ use Rattle.imaged_salvage.specs.Salvaged.{LeavesSalvage}
 use Rattle.imaged_plain.specs.PlainOn.{PlainCard, LeavesPlain}
 use Rattle.salvage.specs.Salvage.{Salvage}
 use Rattle.imaged.proofs.OnlyOne.{Result, Typed, Left, only-one}
-use Rattle.card.specs.Card.{answered, LeavesPage, LeavesPanel, LeavesRows, LeavesBytes}
+use Rattle.answering.specs.Answer.{answered}
+use Rattle.card.specs.Card.{LeavesPage, LeavesPanel, LeavesRows, LeavesBytes}
 
 module _ (c : Card) (r s : Result) (b : Typed r) (d : Typed s) where
   -- a step's first number is read off its refusal number

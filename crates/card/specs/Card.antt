@@ -1,7 +1,7 @@
 -- What each call of the boundary leaves: its refusal number, 0 for done, the image, and every lent byte.
 use mathlib.Core.Path.{_≡_}
 use mathlib.Core.Bool.{Bool, true, _&&_}
-use mathlib.Core.List.{List, [], _∷_}
+use mathlib.Core.List.{List}
 use Prim.Native.Nat.{ℕ}
 use lib.ListN.{length}
 use lib.Dec.{eqb}
@@ -84,12 +84,6 @@ cardPlain ticks keys randoms answers image memory spots =
 -- ---- the answer's four numbers. Of a step and a run: how many steps were accepted, how many spots they darkened, how many bytes the records of
 -- a run keep, and one that is kept for what is to come. Of a salvage: how many records are kept, how many places cleared, and two zeros. Of a
 -- run of the plain engine: how many steps were accepted, and three zeros
-
-abbrev pub answers : List ℕ → Bool
-answers answer = eqb (length answer) 4
-
-abbrev pub answered : ℕ → ℕ → ℕ → List ℕ → List ℕ
-answered first second third answer = pick (answers answer) (first ∷ second ∷ third ∷ 0 ∷ []) answer
 
 unfoldable pub stepWentDark : List ℕ → List ℕ → List ℕ → List ℕ → ℕ
 stepWentDark image memory picture history = pick (sized image) (stepDark (worldOf image memory picture history)) 0

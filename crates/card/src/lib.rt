@@ -11,23 +11,9 @@ ghost use Rattle.rules.specs.Rows.{bytesOf};
 ghost use Rattle.imaged.specs.Imaged.{worldOf, Leaves};
 ghost use Rattle.imaged_salvage.specs.Salvaged.{LeavesSalvage};
 ghost use Rattle.imaged_plain.specs.PlainOn.{LeavesPlain};
-ghost use Rattle.card.specs.Card.{sized, answers, answered, LeavesPage, LeavesPanel, LeavesRows, LeavesBytes};
+ghost use Rattle.answering.specs.Answer.{answers, answered};
+ghost use Rattle.card.specs.Card.{sized, LeavesPage, LeavesPanel, LeavesRows, LeavesBytes};
 ghost use Rattle.card.specs.Card as spec;
-
-// How many numbers an answer has.
-const ANSWER: usize = 4;
-
-// All four numbers of an answer; one of another length is left alone.
-fn put_answer(answer: &mut [u64], first: u64, second: u64, third: u64)
-    ensures { λ _. ⌜ now (answer .exit) ≡ answered first second third (now (answer .entry)) ⌝ }
-{
-    if answer.len() == ANSWER {
-        answer[0] = first;
-        answer[1] = second;
-        answer[2] = third;
-        answer[3] = 0;
-    }
-}
 
 // ---- what a host calls
 
@@ -70,14 +56,14 @@ pub extern "C" fn card_step(
         (now (answer .entry)) ⌝ }
 {
     if image.len() != image::IMAGE {
-        put_answer(answer, 0, 0, 0);
+        answering::put_answer(answer, 0, 0, 0);
         return 9;
     }
-    if answer.len() != ANSWER {
+    if answer.len() != answering::ANSWER {
         return 9;
     }
     let told = imaged::step(image, memory, rows, history, keys, random);
-    put_answer(answer, told.accepted, told.dark, 0);
+    answering::put_answer(answer, told.accepted, told.dark, 0);
     told.number
 }
 
@@ -150,14 +136,14 @@ pub extern "C" fn card_run(
         (now (memory .entry)) (bytesOf (now (rows .entry))) (now (history .entry))) (now (answer .entry)) ⌝ }
 {
     if image.len() != image::IMAGE {
-        put_answer(answer, 0, 0, 0);
+        answering::put_answer(answer, 0, 0, 0);
         return 9;
     }
-    if answer.len() != ANSWER {
+    if answer.len() != answering::ANSWER {
         return 9;
     }
     let told = imaged_lists::run(image, memory, rows, history, ticks, keys, randoms);
-    put_answer(answer, told.accepted, told.dark, told.copied);
+    answering::put_answer(answer, told.accepted, told.dark, told.copied);
     told.number
 }
 
@@ -201,14 +187,14 @@ pub extern "C" fn card_salvage(
         ((spec.cardSalvage true (now (image .entry)) (now (history .entry)) (now (list .entry))) .cleared) 0 (now (answer .entry)) ⌝ }
 {
     if image.len() != image::IMAGE {
-        put_answer(answer, 0, 0, 0);
+        answering::put_answer(answer, 0, 0, 0);
         return 9;
     }
-    if answer.len() != ANSWER {
+    if answer.len() != answering::ANSWER {
         return 9;
     }
     let told = imaged_salvage::salvage(image, history, list);
-    put_answer(answer, told.kept, told.cleared, 0);
+    answering::put_answer(answer, told.kept, told.cleared, 0);
     told.number
 }
 
@@ -230,14 +216,14 @@ pub extern "C" fn card_plain(
         (now (memory .entry)) (now (spots .entry))) 0 0 (now (answer .entry)) ⌝ }
 {
     if image.len() != image::IMAGE {
-        put_answer(answer, 0, 0, 0);
+        answering::put_answer(answer, 0, 0, 0);
         return 9;
     }
-    if answer.len() != ANSWER {
+    if answer.len() != answering::ANSWER {
         return 9;
     }
     let told = imaged_plain::run(image, memory, spots, ticks, keys, randoms);
-    put_answer(answer, told.accepted, 0, 0);
+    answering::put_answer(answer, told.accepted, 0, 0);
     told.number
 }
 
@@ -251,7 +237,7 @@ pub extern "C" fn card_page(image: &[u8], page: &mut [u8]) -> u32
     let standing = image::read(image);
     let machine = standing.machine;
     let outcome = stepper::draw(machine, page);
-    imaged::number(outcome)
+    image_after::number(outcome)
 }
 
 #[no_mangle]
@@ -259,7 +245,7 @@ pub extern "C" fn card_panel(picture: &[u8], panel: &mut [u8]) -> u32
     ensures { λ r. ⌜ LeavesPanel r (now (picture .entry)) (now (panel .entry)) (now (panel .exit)) ⌝ }
 {
     let outcome = panel::panel(picture, panel);
-    imaged::number(outcome)
+    image_after::number(outcome)
 }
 
 #[no_mangle]
@@ -267,7 +253,7 @@ pub extern "C" fn card_rows(picture: &[u8], rows: &mut [u64]) -> u32
     ensures { λ r. ⌜ LeavesRows r (now (picture .entry)) (now (rows .entry)) (now (rows .exit)) ⌝ }
 {
     let outcome = chip8::to_rows(picture, rows);
-    imaged::number(outcome)
+    image_after::number(outcome)
 }
 
 #[no_mangle]
@@ -275,5 +261,5 @@ pub extern "C" fn card_bytes(rows: &[u64], picture: &mut [u8]) -> u32
     ensures { λ r. ⌜ LeavesBytes r (now (rows .entry)) (now (picture .entry)) (now (picture .exit)) ⌝ }
 {
     let outcome = chip8::to_bytes(rows, picture);
-    imaged::number(outcome)
+    image_after::number(outcome)
 }

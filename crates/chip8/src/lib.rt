@@ -30,11 +30,11 @@ pub use turning::to_rows;
 // For what is built above the library: the tests 9 and 10, and what they test: a history's length, a state, and the numbers beside it; how many
 // places a history has; and a line of a digit's published shape.
 pub use digits::shape_line;
-pub use judge::history_fits;
-pub use judge::is_sound;
-pub use judge::places;
+pub use fitting::history_fits;
+pub use fitting::places;
 pub use judge::soundly;
 pub use judge::tested;
+pub use soundness::is_sound;
 
 // What they answer beside the buffers that they are lent.
 pub use parts::Answer;

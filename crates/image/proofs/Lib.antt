@@ -1,3 +1,2 @@
 -- What is claimed of images.
-pub mod Pieces
 pub mod ReadsBack

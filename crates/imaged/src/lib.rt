@@ -8,7 +8,6 @@ ghost use lib.Dec.{eqb};
 ghost use lib.ListN.{length};
 ghost use Rattle.rules.specs.declared.Edition.the-variants.{First};
 ghost use Rattle.rules.specs.Number.{pick, unless};
-ghost use Rattle.rules.specs.Refusal as refusal;
 ghost use Rattle.rules.specs.State.{fresh};
 ghost use Rattle.rules.specs.World.{sizesFit};
 ghost use Rattle.rules.specs.Load.{endOf, freshTrail};
@@ -21,7 +20,6 @@ ghost use Rattle.imaged.specs.Imaged.{worldOf, shown, loadBy, whole, Lea
 use parts::Answer;
 use rules::Edition;
 use rules::Machine;
-use rules::Outcome;
 use rules::Trail;
 
 // What a step tells besides the bytes: the refusal number or 0, whether it was accepted, and the lit spots that it darkened.
@@ -29,40 +27,6 @@ pub struct Told {
     pub number: u32,
     pub accepted: u64,
     pub dark: u64,
-}
-
-// ---- numbers
-
-// The number of an outcome, as wide as C has it.
-pub fn number(o: Outcome) -> u32
-    ensures { λ n. ⌜ n ≡ refusal.number o ⌝ }
-{
-    parts::number(o) as u32
-}
-
-// How many steps a step's number tells of.
-fn accepted_by(told: u32) -> u64
-    ensures { λ r. ⌜ r ≡ pick (eqb told 0) 1 0 ⌝ }
-{
-    if told == 0 { 1 } else { 0 }
-}
-
-// ---- the image after a call
-
-// An accepted call writes the image, and a refused one leaves it.
-pub fn after_call(image: &mut [u8], answer: Answer) -> u32
-    requires { ⌜ length (now image) ≡ imageSize ⌝ }
-    ensures { λ r. ⌜ (r ≡ refusal.number (answer .outcome)) × (now (image .exit) ≡ pick (eqb (refusal.number (answer .outcome)) 0)
-        (imageOf (answer .machine) (answer .trail)) (now (image .entry))) ⌝ }
-{
-    let outcome = answer.outcome;
-    let n = number(outcome);
-    if n == 0 {
-        let machine = answer.machine;
-        let trail = answer.trail;
-        image::write(image, machine, trail);
-    }
-    n
 }
 
 // ---- the calls
@@ -86,9 +50,9 @@ fn load_known(
     let answer = chip8::load(edition, end, program, memory, rows, history);
     let m = answer.machine;
     let t = answer.trail;
-    image::write(image, m, t);
+    image_writing::write(image, m, t);
     let outcome = answer.outcome;
-    number(outcome)
+    image_after::number(outcome)
 }
 
 // An edition that there is not: 9 comes before 10, and the fresh image is of the first edition.
@@ -97,16 +61,16 @@ fn load_unknown(end: u16, image: &mut [u8], memory: &[u8], rows: &[u64], history
     ensures { λ r. ⌜ (r ≡ unless (sizesFit (now (memory .entry)) (bytesOf (now (rows .entry))) (now (history .entry))) 9 10)
         × (now (image .exit) ≡ imageOf (fresh First (endOf end)) freshTrail) ⌝ }
 {
-    image::write(
+    image_writing::write(
         image,
-        Machine::fresh(Edition::First, judge::end_of(end)),
+        Machine::fresh(Edition::First, soundness::end_of(end)),
         Trail {
             next: 0,
             kept: 0,
             ahead: 0,
         },
     );
-    if judge::sizes_fit(memory, rows, history) {
+    if fitting::sizes_fit(memory, rows, history) {
         10
     } else {
         9
@@ -167,7 +131,7 @@ pub fn step(
     let outcome = stepped.outcome;
     let machine = stepped.machine;
     let trail = stepped.trail;
-    let n = after_call(
+    let n = image_after::after_call(
         image,
         Answer {
             outcome,
@@ -177,7 +141,7 @@ pub fn step(
     );
     Told {
         number: n,
-        accepted: accepted_by(n),
+        accepted: image_after::accepted_by(n),
         dark: stepped.dark as u64,
     }
 }
@@ -192,7 +156,7 @@ pub fn tick(image: &mut [u8], history: &mut [u8]) -> u32
     let before = image::read(image);
     let m = before.machine;
     let t = before.trail;
-    after_call(image, chip8::tick(m, t, history))
+    image_after::after_call(image, chip8::tick(m, t, history))
 }
 
 pub fn back(image: &mut [u8], memory: &mut [u8], rows: &mut [u64], history: &[u8]) -> u32
@@ -205,7 +169,7 @@ pub fn back(image: &mut [u8], memory: &mut [u8], rows: &mut [u64], history: &[u8
     let before = image::read(image);
     let m = before.machine;
     let t = before.trail;
-    after_call(image, chip8::back(m, t, memory, rows, history))
+    image_after::after_call(image, chip8::back(m, t, memory, rows, history))
 }
 
 pub fn forward(image: &mut [u8], memory: &mut [u8], rows: &mut [u64], history: &mut [u8]) -> u32
@@ -218,5 +182,5 @@ pub fn forward(image: &mut [u8], memory: &mut [u8], rows: &mut [u64], history: &
     let before = image::read(image);
     let m = before.machine;
     let t = before.trail;
-    after_call(image, chip8::forward(m, t, memory, rows, history))
+    image_after::after_call(image, chip8::forward(m, t, memory, rows, history))
 }

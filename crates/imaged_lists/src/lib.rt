@@ -2,16 +2,13 @@
 // written back.
 ghost use mathlib.Core.Path.{_≡_};
 ghost use lib.ListN.{length};
-ghost use Rattle.rules.specs.Number.{pick};
-ghost use Rattle.rules.specs.Refusal as refusal;
 ghost use Rattle.rules.specs.Run as rules_run;
 ghost use Rattle.rules.specs.Dark.{runDark};
 ghost use Rattle.rules.specs.Copied.{runCopied};
 ghost use Rattle.rules.specs.Past.{PlayTells};
 ghost use Rattle.rules.specs.Rows.{bytesOf};
-ghost use Rattle.image.specs.Image.{imageSize, inOrder, imageOf};
+ghost use Rattle.image.specs.Image.{imageSize};
 ghost use Rattle.imaged.specs.Imaged.{worldOf, ranOn, playedOn, Leaves};
-use imaged::number;
 use parts::Answer;
 
 // What a run tells besides the bytes: the refusal number or 0, the accepted steps, the lit spots that they darkened, and the bytes that their
@@ -21,23 +18,6 @@ pub struct Told {
     pub accepted: u64,
     pub dark: u64,
     pub copied: u64,
-}
-
-// After a run or a play. One that is refused itself hands back the state as it came, so to write that changes no byte; and an image that
-// is not in order, which no call takes, is left.
-pub fn after_list(image: &mut [u8], answer: Answer) -> u32
-    requires { ⌜ length (now image) ≡ imageSize ⌝ }
-    ensures { λ r. ⌜ (r ≡ refusal.number (answer .outcome)) × (now (image .exit) ≡ pick (inOrder (now (image .entry)))
-        (imageOf (answer .machine) (answer .trail)) (now (image .entry))) ⌝ }
-{
-    let outcome = answer.outcome;
-    let n = number(outcome);
-    if image::in_order(image) {
-        let machine = answer.machine;
-        let trail = answer.trail;
-        image::write(image, machine, trail);
-    }
-    n
 }
 
 pub fn run(
@@ -68,7 +48,7 @@ pub fn run(
     let outcome = ran.outcome;
     let machine = ran.machine;
     let trail = ran.trail;
-    let n = after_list(
+    let n = image_after::after_list(
         image,
         Answer {
             outcome,
@@ -106,5 +86,5 @@ pub fn play(
     let m = before.machine;
     let t = before.trail;
     let answer = chip8::play(m, t, memory, rows, history, moves, keys, randoms);
-    after_list(image, answer)
+    image_after::after_list(image, answer)
 }

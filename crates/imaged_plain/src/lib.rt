@@ -33,7 +33,7 @@ pub fn run(
     let ran = plain::run(m, memory, spots, ticks, keys, randoms);
     let outcome = ran.outcome;
     let machine = ran.machine;
-    let n = imaged_lists::after_list(
+    let n = image_after::after_list(
         image,
         Answer {
             outcome,

@@ -26,7 +26,7 @@ pub fn salvage(image: &mut [u8], history: &mut [u8], list: &mut [u16]) -> Told
     let salvaged = salvage::salvage(machine, t, history, list);
     let outcome = salvaged.outcome;
     let trail = salvaged.trail;
-    let n = imaged::after_call(
+    let n = image_after::after_call(
         image,
         Answer {
             outcome,

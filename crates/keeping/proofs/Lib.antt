@@ -1,5 +1,5 @@
 -- What is proved here besides the functions.
-pub mod Numbers
+pub mod Overlap
 pub mod Cleared
 pub mod Reached
 pub mod Laid

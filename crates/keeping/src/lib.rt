@@ -1,15 +1,13 @@
 // A history's records, written. The specs of `rules`, Record.antt, say what a record is.
 ghost use mathlib.Core.Path.{_≡_};
-ghost use mathlib.Core.List.{List, [], _∷_, _++_};
-ghost use Prim.Native.Nat.{ℕ, _+_, _-_, _*_, _%_, _≤_, _<_};
-ghost use lib.Dec.{eqb};
-ghost use lib.ListN.{length, getD, replicate};
+ghost use mathlib.Core.List.{List};
+ghost use Prim.Native.Nat.{ℕ, _+_, _*_, _≤_};
+ghost use lib.ListN.{length, replicate};
 ghost use Rattle.keeping.specs.Writable.{blank, Reaches};
-ghost use Rattle.rules.specs.Number.{pick, word};
 ghost use Rattle.rules.specs.Memory.{over};
 ghost use Rattle.rules.specs.State.{stackSize};
-ghost use Rattle.rules.specs.Record.{placeSize, atV, atI, atOld, heldByte, mark, start, count, old, fields, inputs};
-ghost use Rattle.rules.specs.Rows.{bytesOf, eightOf};
+ghost use Rattle.rules.specs.Record.{placeSize, atV, atI, atOld, count, old, fields};
+ghost use Rattle.rules.specs.Rows.{bytesOf};
 ghost use Rattle.parts.specs.Whole.{whole};
 use parts::Core;
 use rules::Action;
@@ -49,115 +47,14 @@ pub const AT_RANDOM: usize = 290;
 
 pub const AT_KIND: usize = 291;
 
-// ---- the parts of a record
-
-fn mark_of(c: Change) -> [u8; 2]
-    ensures { λ r. ⌜ r ≡ mark c ⌝ }
-{
-    match c {
-        Change::Nothing => *b"NO",
-        Change::InMemory(_, _) => *b"ME",
-        Change::InPicture(_, _) => *b"DI",
-    }
-}
-
-fn start_of(c: Change) -> u16
-    ensures { λ r. ⌜ r ≡ start c ⌝ }
-{
-    match c {
-        Change::Nothing => 0,
-        Change::InMemory(s, _) => s,
-        Change::InPicture(s, _) => s,
-    }
-}
-
-pub fn count_of(c: Change) -> u16
-    ensures { λ r. ⌜ r ≡ count c ⌝ }
-{
-    match c {
-        Change::Nothing => 0,
-        Change::InMemory(_, n) => n,
-        Change::InPicture(_, n) => n,
-    }
-}
-
-// 0 where nothing is on the stack.
-fn last_return(depth: u8, stack: &[u16; Machine::STACK]) -> u16
-    requires { ⌜ depth ≤ stackSize ⌝ }
-    ensures { λ r. ⌜ r ≡ pick (eqb depth 0) 0 (getD (now (stack .entry)) (depth - 1) 0) ⌝ }
-{
-    let above = depth as usize;
-    if above == 0 { 0 } else { stack[above - 1] }
-}
-
-// A byte and a number of two bytes are widened by a call, so that they need no proof that they fit.
-fn wide(x: u8) -> u64
-    ensures { λ r. ⌜ (r ≡ x) × (r < 256) ⌝ }
-{
-    x as u64
-}
-
-fn wide_word(x: u16) -> u64
-    ensures { λ r. ⌜ (r ≡ x) × (r < 65536) ⌝ }
-{
-    x as u64
-}
-
-// Of what lies between the variables and the old bytes, the first eight bytes as one number: I, PC, depth, the last return address and
-// the delay timer.
-fn first_fields(c: Core, last: u16) -> u64
-    ensures { λ r. ⌜ eightOf r ≡ word (c .i) ++ word (c .pc) ++ (c .depth ∷ []) ++ word last ++ (c .timers .delay ∷ []) ⌝ }
-{
-    let i = wide_word(c.i);
-    let pc = wide_word(c.pc);
-    let depth = wide(c.depth);
-    let delay = wide(c.timers.delay);
-    i * 0x1_0000_0000_0000
-        + pc * 0x1_0000_0000
-        + depth * 0x100_0000
-        + wide_word(last) * 0x100
-        + delay
-}
-
-// And the last eight, of which the first two are those that the other number ends with.
-fn last_fields(c: Core, last: u16, change: Change) -> u64
-    ensures { λ r. ⌜ eightOf r ≡ (last % 256 ∷ c .timers .delay ∷ c .timers .tone ∷ heldByte (c .wait) ∷ []) ++ word (start change) ++ word (count change) ⌝ }
-{
-    let wait = c.wait;
-    let low = wide(memory::low(last));
-    let delay = wide(c.timers.delay);
-    let tone = wide(c.timers.tone);
-    let held = wide(parts::held_byte(wait));
-    let start = wide_word(start_of(change));
-    let count = wide_word(count_of(change));
-    low * 0x100_0000_0000_0000
-        + delay * 0x1_0000_0000_0000
-        + tone * 0x100_0000_0000
-        + held * 0x1_0000_0000
-        + start * 0x1_0000
-        + count
-}
-
-// What stands last: the inputs of a step and a 1, or four zeros for a tick.
-fn inputs_of(action: Action) -> [u8; 4]
-    ensures { λ r. ⌜ r ≡ inputs action ⌝ }
-{
-    match action {
-        Action::Step(keys, random) => [memory::high(keys), memory::low(keys), random, 1],
-        Action::Tick => [0; 4],
-    }
-}
-
-// ---- writing
-
 // What lies between the variables and the old bytes. Byte by byte it would take as many stores as all the zeros.
 fn lay_fields(place: &mut [u8], c: Core, stack: &[u16; Machine::STACK], change: Change)
     requires { ⌜ (length (now place) ≡ placeSize) × (c .depth ≤ stackSize) ⌝ }
     ensures { λ _. ⌜ ((v : List ℕ) → now (place .exit) ≡ over (now (place .entry)) atI (fields (whole c v (now (stack .entry))) change) 14) ⌝ }
 {
-    let last = last_return(c.depth, stack);
-    memory::lay_eight(place, AT_I, first_fields(c, last));
-    memory::lay_eight(place, AT_OLD - 8, last_fields(c, last, change));
+    let last = fields::last_return(c.depth, stack);
+    memory::lay_eight(place, AT_I, fields::first_fields(c, last));
+    memory::lay_eight(place, AT_OLD - 8, fields::last_fields(c, last, change));
 }
 
 // The variables. They come by value, so that they can't lie where the record is written, and sixteen bytes are copied at once.
@@ -201,8 +98,8 @@ fn write(
     requires { ⌜ (length (now place) ≡ placeSize) × (skew ≤ 16) × (c .depth ≤ stackSize) ⌝ }
     ensures { λ _. ⌜ now (place .exit) ≡ blank (whole c (now (v .entry)) (now (stack .entry))) change action ⌝ }
 {
-    let mark = mark_of(change);
-    let inputs = inputs_of(action);
+    let mark = fields::mark_of(change);
+    let inputs = fields::inputs_of(action);
     memory::lay(place, AT_MARK, &mark);
     lay_fields(place, c, stack, change);
     clear_old(place, skew);

@@ -19,10 +19,10 @@ use rules::Trail;
 fn judged(end: u16, program: &[u8], memory: &[u8], rows: &[u64], history: &[u8]) -> Outcome
     ensures { λ r. ⌜ number r ≡ loadRefusal end (now (program .entry)) (now (memory .entry)) (bytesOf (now (rows .entry))) (now (history .entry)) ⌝ }
 {
-    if !judge::sizes_fit(memory, rows, history) {
+    if !fitting::sizes_fit(memory, rows, history) {
         return Outcome::Refused(Refusal::BufferLength);
     }
-    if !judge::end_sound(end) {
+    if !soundness::end_sound(end) {
         return Outcome::Refused(Refusal::Unsound);
     }
     let size = program.len();
@@ -55,7 +55,7 @@ pub fn load(
         (rule.load edition end (now (program .entry)) (now (memory .entry)) (bytesOf (now (rows .entry))) (now (history .entry))) (r .outcome)
         (r .machine) (r .trail) (now (memory .exit)) (bytesOf (now (rows .exit))) (now (history .exit)) ⌝ }
 {
-    let machine = Machine::fresh(edition, judge::end_of(end));
+    let machine = Machine::fresh(edition, soundness::end_of(end));
     let trail = Trail {
         next: 0,
         kept: 0,

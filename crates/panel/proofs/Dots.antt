@@ -13,18 +13,11 @@ use Rattle.rules.specs.Number.{bit}
 use Rattle.rules.specs.Refusal.{number as refusal}
 use Rattle.rules.specs.Picture.{spot, byteOf}
 use Rattle.rules.proofs.OnlyOne.{one-outcome}
-use Rattle.rules.proofs.Drawn.{number, same, bit-lit, digit, byte-number, byte-is}
+use Rattle.rules.proofs.Drawn.{number, same, bit-lit, digit, byte-number, same-byte}
 use Rattle.panel.specs.Panel.{PanelOf, dotBytes, panelOf, twice, fits, Shows}
 use Rattle.panel.specs.Bytes.{pair, source, above, Upper, Repeated, Doubled}
 
 -- ---- a byte and its bits
-
--- two bytes with equal bits are equal
-same-byte : (a b : ℕ) → a < 256 → b < 256 → ((i : ℕ) → i < 8 → bit (7 - i) a ≡ bit (7 - i) b) → a ≡ b
-same-byte a b ha hb e = sym (byte-is (λ x y. bit (7 - x) a) 0 a ha (λ i l. from i)) ∙ byte-is (λ x y. bit (7 - x) a) 0 b hb (λ i l. from i ∙ e i l)
-  where
-    from : (i : ℕ) → bit (7 - (0 + i)) a ≡ bit (7 - i) a
-    from i = rw zero-add
 
 -- four bits doubled are a byte; eight are two bytes, which a number of two bytes keeps apart
 abbrev quad : (ℕ → ℕ) → ℕ

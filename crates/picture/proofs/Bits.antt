@@ -1,32 +1,19 @@
--- Laws of bits: of a number shifted and cut, of two numbers put together bit by bit, and of their count.
+-- Laws of bits: of a number shifted and cut, and of one turned over twice.
 use mathlib.Core.Path.{_≡_, refl, sym, ap, _∙_}
-use Prim.Native.Nat.{ℕ, zero, suc, _+_, _*_, _/_, _%_, _^_, _<_, min}
-use native.Mathlib.Nat.{zero-div, add-comm, mul-assoc}
+use Prim.Native.Nat.{ℕ, zero, suc, _+_, _*_, _/_, _%_, _^_, _<_}
+use native.Mathlib.Nat.{add-comm, mul-assoc}
 use native.Mathlib.Omega.{arith}
 use lib.Arith.{bin-ind}
-use lib.Bits.{bitAnd, bitXor, differ, and-step, xor-step, and-shr, shifted-even}
+use lib.Bits.{bitXor, differ, xor-step}
 use lib.Pow.{shr-shr, shl-shr, pow-add, field, mod-mod-pow}
 use Rattle.rules.specs.Number.{bit}
-use Rattle.rules.proofs.Drawn.{half, odd, bit-lit}
+use Rattle.rules.proofs.Drawn.{half, odd}
 use Rattle.rules.proofs.Spots.{differ-lit}
 
 -- ---- a number shifted and cut
 
-pub bit-zero : (b : ℕ) → bit b 0 ≡ 0
-bit-zero b = rw zero-div
-
 pub bit-down : (n k b : ℕ) → bit b (n / 2 ^ k) ≡ bit (k + b) n
 bit-down n k b = rw (shr-shr n k b)
-
-pub bit-up : (n k b : ℕ) → bit (k + b) (n * 2 ^ k) ≡ bit b n
-bit-up n k b = sym (bit-down (n * 2 ^ k) k b) ∙ rw (shl-shr n k)
-
-pub bit-under : (n b d : ℕ) → bit b (n * 2 ^ (b + suc d)) ≡ 0
-bit-under n b d =
-    rw (add-comm b (suc d), pow-add 2 (suc d) b, ← mul-assoc n (2 ^ suc d) (2 ^ b), shl-shr (n * 2 ^ suc d) b) (shifted-even n d)
-
-pub bit-over : (n b : ℕ) → n < 256 → bit (8 + b) n ≡ 0
-bit-over n b h = let none : n / 2 ^ 8 ≡ 0 = omega arith in rw (← shr-shr n 8 b, none, zero-div)
 
 pub bit-cut : (n b d : ℕ) → bit b (n % 2 ^ (d + 1 + b)) ≡ bit b n
 bit-cut n b d = rw field (mod-mod-pow (n / 2 ^ b) d 1)
@@ -39,10 +26,7 @@ shl-less n k t = sym (shr-shr (n * 2 ^ k) k t) ∙ ap (λ (m : ℕ). m / 2 ^ t) 
 pub shl-more : (n k t : ℕ) → n * 2 ^ (k + t) / 2 ^ k ≡ n * 2 ^ t
 shl-more n k t = rw (add-comm k t, pow-add 2 t k, ← mul-assoc n (2 ^ t) (2 ^ k)) (shl-shr (n * 2 ^ t) k)
 
--- ---- two numbers put together
-
-pub bit-and : (b m n : ℕ) → bit b (bitAnd m n) ≡ min (bit b m) (bit b n)
-bit-and b m n = rw (and-shr m n b, and-step (m / 2 ^ b) (n / 2 ^ b)) (odd _ _ (omega (arith, bit-lit b m)))
+-- ---- turned over twice
 
 differ-back : (a b : ℕ) → a < 2 → b < 2 → differ a (differ a b) ≡ b
 differ-back zero b h k = refl

@@ -11,8 +11,8 @@ use Rattle.rules.specs.Picture.{spot, litSpots}
 use Rattle.rules.specs.Rows.{bytesOf}
 use Rattle.rules.proofs.Laid.{Laid}
 use Rattle.rules.proofs.Counted.{lit-sum}
-use Rattle.picture.specs.Masks.{summed}
-use Rattle.picture.proofs.Shown.{spot-is}
+use Rattle.picture.specs.Sums.{summed}
+use Rattle.picture.proofs.RowSpots.{spot-is}
 use Rattle.picture.proofs.Sums.{sum-rows}
 
 lit-rows : (rows : List ℕ) → ((y : ℕ) → getD rows y 0 < 2 ^ 64) → litSpots (bytesOf rows) ≡ summed (λ k. ones (getD rows k 0)) 32

@@ -7,7 +7,7 @@ use native.Mathlib.Omega.{arith}
 use lib.Count.{ones, ones-step}
 use Rattle.rules.specs.Number.{bit}
 use Rattle.rules.specs.Picture.{sumFrom}
-use Rattle.picture.specs.Masks.{summed, between}
+use Rattle.picture.specs.Sums.{summed, between}
 use Rattle.picture.proofs.Bits.{bit-down}
 
 -- ---- sums

@@ -36,7 +36,7 @@ fn admitted(m: Machine, memory: &[u8], spots: &[u8], lists: bool) -> Outcome
     ensures { λ r. ⌜ (r ≡ Done → Playable m (now (memory .entry)) (now (spots .entry))) ⌝ }
 {
     let fits = (memory.len() == Machine::MEMORY) & (spots.len() == Machine::SPOTS) & lists;
-    judge::tested(fits, judge::is_sound(m) & spots::are_spots(spots))
+    judge::tested(fits, soundness::is_sound(m) & spots::are_spots(spots))
 }
 
 // So many ticks.
@@ -121,7 +121,7 @@ pub fn run(
         (plainRun (now (ticks .entry)) (now (keys .entry)) (now (randoms .entry)) machine (now (memory .entry)) (now (spots .entry)))
         (r .accepted) (r .outcome) (r .machine) (now (memory .exit)) (now (spots .exit)) ⌝ }
 {
-    let lists = judge::lists_fit(ticks.len(), keys.len(), randoms.len());
+    let lists = fitting::lists_fit(ticks.len(), keys.len(), randoms.len());
     let outcome = admitted(machine, memory, spots, lists);
     let Outcome::Done = outcome else {
         return Ran {

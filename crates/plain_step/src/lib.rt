@@ -1,13 +1,9 @@
 // A step of the plain engine: the two bytes at PC are looked up in the table, and the line is carried out, or refused. A line that needs
 // something is tested for it first, so a step is done whole or not at all.
 ghost use mathlib.Core.Path.{_≡_};
-ghost use mathlib.Core.List.{List};
 ghost use Prim.Native.Nat.{ℕ, _-_, _≤_};
-ghost use lib.Dec.{leb};
 ghost use lib.ListN.{length};
-ghost use Rattle.rules.specs.Number.{pick};
 ghost use Rattle.rules.specs.State.{memorySize, withWait, withTimers};
-ghost use Rattle.rules.specs.Picture.{litSpots};
 ghost use Rattle.rules.specs.Memory.{part};
 ghost use Rattle.rules.specs.Registers as state;
 ghost use Rattle.rules.specs.Step as rule;
@@ -49,32 +45,6 @@ fn refused(m: Machine, refusal: Refusal) -> Stepped
     }
 }
 
-// ---- what is tested
-
-// Whether the n bytes from I on are below the end of memory; no bytes are anywhere.
-fn in_memory(m: Machine, n: usize) -> bool
-    requires { ⌜ n ≤ 256 ⌝ }
-    ensures { λ r. ⌜ r ≡ leb (rule.reach m n) (m .end) ⌝ }
-{
-    if n == 0 {
-        return true;
-    }
-    m.i as usize + n <= m.end as usize
-}
-
-// Whether the number of lit spots that the machine has with it stays from 0 to 2,048, where so many were lit before a change of the picture and so
-// many after it. A number that is the picture's count always does.
-fn stays_in_range(lit: u16, before: usize, after: usize) -> bool
-    requires { ⌜ (before ≤ 2048) × (after ≤ 2048) ⌝ }
-    ensures { λ r. ⌜ ((p q : List ℕ) → before ≡ litSpots p → after ≡ litSpots q → rule.litRefusal lit p q ≡ pick r 0 10) ⌝ }
-{
-    let sum = lit as usize + after;
-    if sum < before {
-        return false;
-    }
-    sum <= before + Machine::SPOTS
-}
-
 // ---- the lines that change the picture
 
 // The N bytes of memory from I on. DXY0 has none, whatever I is.
@@ -97,7 +67,7 @@ fn erase(m: Machine, memory: &[u8], spots: &mut [u8]) -> Stepped
         (doneBy Clear keys random (boardOn m (now (memory .entry)) (now (spots .entry)))) (r .outcome) (r .machine)
         (now (memory .entry)) (now (spots .exit))) ⌝ }
 {
-    if !stays_in_range(m.lit, spots::lit(spots), 0) {
+    if !plain_tests::stays_in_range(m.lit, spots::lit(spots), 0) {
         return refused(m, Refusal::Unsound);
     }
     done(plain_lines::erase(m, spots))
@@ -110,14 +80,14 @@ fn show(m: Machine, x: u8, y: u8, n: u8, memory: &[u8], spots: &mut [u8]) -> Ste
         (doneBy (Draw x y n) keys random (boardOn m (now (memory .entry)) (now (spots .entry)))) (r .outcome) (r .machine)
         (now (memory .entry)) (now (spots .exit))) ⌝ }
 {
-    if !in_memory(m, n as usize) {
+    if !plain_tests::in_memory(m, n as usize) {
         return refused(m, Refusal::MemoryPastEnd);
     }
     let pattern = pattern(m, n, memory);
     let column = (plain_lines::v(m, x) % 64) as usize;
     let row = (plain_lines::v(m, y) % 32) as usize;
     let after = spots::lit_after(spots, pattern, column, row);
-    if !stays_in_range(m.lit, spots::lit(spots), after) {
+    if !plain_tests::stays_in_range(m.lit, spots::lit(spots), after) {
         return refused(m, Refusal::Unsound);
     }
     done(plain_lines::show(m, x, y, pattern, spots))
@@ -193,19 +163,19 @@ fn carry_out(
             machine: plain_lines::let_key(m, x, keys),
         },
         Op::Decimal(x) => {
-            if !in_memory(m, 3) {
+            if !plain_tests::in_memory(m, 3) {
                 return refused(m, Refusal::MemoryPastEnd);
             }
             done(plain_lines::store_decimal(m, x, memory))
         }
         Op::Store(x) => {
-            if !in_memory(m, plain_lines::up_to(x)) {
+            if !plain_tests::in_memory(m, plain_lines::up_to(x)) {
                 return refused(m, Refusal::MemoryPastEnd);
             }
             done(plain_lines::store(m, x, memory))
         }
         Op::Fetch(x) => {
-            if !in_memory(m, plain_lines::up_to(x)) {
+            if !plain_tests::in_memory(m, plain_lines::up_to(x)) {
                 return refused(m, Refusal::MemoryPastEnd);
             }
             done(plain_lines::fetch(m, x, memory))

@@ -20,7 +20,7 @@ use Rattle.rules.specs.Promise.{Gives}
 use Rattle.rules.proofs.Given.{Back, tests, handed, refused-some}
 use Rattle.rules.proofs.StepsBack.{steps-back}
 use Rattle.rules.proofs.RunsPlay.{plays-typed}
-use Rattle.running.proofs.Ticks.{gives-world}
+use Rattle.entries.proofs.Ticks.{gives-world}
 use Rattle.running.proofs.Entries.{SameLength, drop-next}
 
 -- ---- the bytes

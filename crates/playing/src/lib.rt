@@ -109,7 +109,7 @@ pub fn play(
         (world machine trail (now (memory .entry)) (bytesOf (now (rows .entry))) (now (history .entry)))
         (world (r .machine) (r .trail) (now (memory .exit)) (bytesOf (now (rows .exit))) (now (history .exit))) ⌝ }
 {
-    let lists = judge::lists_fit(moves.len(), keys.len(), randoms.len()) & all_moves(moves);
+    let lists = fitting::lists_fit(moves.len(), keys.len(), randoms.len()) & all_moves(moves);
     let outcome = judge::admitted(machine, trail, memory, rows, history, lists);
     let Outcome::Done = outcome else {
         return Answer {

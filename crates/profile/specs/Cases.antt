@@ -16,7 +16,7 @@ use Rattle.rules.specs.Record.{placeSize, recordWith}
 use Rattle.rules.specs.World.{World, world}
 use Rattle.rules.specs.Load.{load, loadRefusal, loadedMemory}
 use Rattle.rules.specs.Call.{step, stepRefusal, stepped, back, backRefusal, undone}
-use Rattle.rules.specs.Cases.{Case, case, v, i, pc, bytes, shows, lit, end, begins, every}
+use Rattle.cases.specs.Case.{Case, case, v, i, pc, bytes, shows, lit, end, begins, every}
 
 steps : List Case
 steps =

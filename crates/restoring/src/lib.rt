@@ -1,59 +1,15 @@
 // A step back: the last record is read, and what it holds is put back. Nothing is written before the record is known to be whole, and the
 // number of lit spots to stay in its range.
-ghost use mathlib.Core.Path.{_≡_};
-ghost use Prim.Native.Nat.{_≤_};
-ghost use lib.ListN.{length};
-ghost use Rattle.rules.specs.State.{memorySize};
 ghost use Rattle.rules.specs.World.{world, places};
-ghost use Rattle.rules.specs.Record.{placeSize, memoryAt, pictureAt};
 ghost use Rattle.rules.specs.Call as rule;
 ghost use Rattle.rules.specs.Promise.{Gives};
 ghost use Rattle.rules.specs.Rows.{bytesOf};
-ghost use Rattle.rules.proofs.Undo.{Fits};
 ghost use Rattle.rules.proofs.Ready.{Ready};
-ghost use Rattle.lit.specs.Balance.{Balance};
 use parts::Answer;
-use picture::Spots;
-use rules::Change;
 use rules::Machine;
 use rules::Outcome;
 use rules::Refusal;
 use rules::Trail;
-
-// Puts the old bytes of a record back where they stood.
-fn put_back(change: Change, place: &[u8], memory: &mut [u8], rows: &mut [u64])
-    requires { ⌜ (length (now place) ≡ placeSize) × (length (now memory) ≡ memorySize) × (length (now rows) ≡ 32) × Fits memorySize change ⌝ }
-    ensures { λ _. ⌜ now (memory .exit) ≡ memoryAt change (now (place .entry)) (now (memory .entry)) ⌝ }
-    ensures { λ _. ⌜ bytesOf (now (rows .exit)) ≡ pictureAt change (now (place .entry)) (bytesOf (now (rows .entry))) ⌝ }
-{
-    match change {
-        Change::Nothing => {}
-        Change::InMemory(start, count) => {
-            let end = history::AT_OLD + count as usize;
-            memory::lay(memory, start as usize, &place[history::AT_OLD..end]);
-        }
-        Change::InPicture(start, count) => {
-            let end = history::AT_OLD + count as usize;
-            picture::put_bytes(rows, start as usize, &place[history::AT_OLD..end]);
-        }
-    }
-}
-
-// How many lit spots that would turn dark, and how many dark ones lit. Nothing is written yet.
-fn would_put_back(change: Change, place: &[u8], rows: &[u64]) -> Spots
-    requires { ⌜ (length (now place) ≡ placeSize) × (length (now rows) ≡ 32) × Fits memorySize change ⌝ }
-    ensures { λ r. ⌜ Balance r (bytesOf (now (rows .entry))) (pictureAt change (now (place .entry)) (bytesOf (now (rows .entry)))) ⌝ }
-    ensures { λ r. ⌜ (r .dark ≤ 2048) × (r .lit ≤ 2048) ⌝ }
-{
-    match change {
-        Change::Nothing => Spots { dark: 0, lit: 0 },
-        Change::InMemory(_, _) => Spots { dark: 0, lit: 0 },
-        Change::InPicture(start, count) => {
-            let end = history::AT_OLD + count as usize;
-            picture::would_put(rows, start as usize, &place[history::AT_OLD..end])
-        }
-    }
-}
 
 // A step back in a world that passed the tests 9 and 10.
 fn undo(
@@ -75,7 +31,7 @@ fn undo(
             trail,
         };
     }
-    let last = trail::place_before(trail.next, judge::places(history));
+    let last = trail::place_before(trail.next, fitting::places(history));
     let at = history::PLACE * last;
     let end = at + history::PLACE;
     let old = history::read(&history[at..end], machine);
@@ -87,7 +43,7 @@ fn undo(
         };
     }
     let change = old.change;
-    let spots = would_put_back(change, &history[at..end], rows);
+    let spots = putting_back::would_put_back(change, &history[at..end], rows);
     let late = lit::late(machine.lit, spots);
     let Outcome::Done = late else {
         return Answer {
@@ -96,7 +52,7 @@ fn undo(
             trail,
         };
     };
-    put_back(change, &history[at..end], memory, rows);
+    putting_back::put_back(change, &history[at..end], memory, rows);
     let mut before = old.machine;
     before.lit = lit::counted(machine.lit, spots);
     Answer {

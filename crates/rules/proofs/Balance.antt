@@ -1,15 +1,17 @@
 -- A drawing's balance: what is lit after it and what it darkened are what was lit before and what it lightened. Each of the two is at
 -- most eight spots for each byte of the pattern.
 use mathlib.Core.Path.{_≡_, refl, sym, ap, ap₂, _∙_}
-use mathlib.Core.Bool.{and-false}
+use mathlib.Core.Bool.{_&&_, and-false}
 use mathlib.Core.List.{List}
 use Prim.Native.Nat.{ℕ, zero, suc, _+_, _-_, _*_, _/_, _%_, _≤_, _<_, min}
 use native.Mathlib.Nat.{add-zero, zero-mul, mul-suc}
 use native.Mathlib.Decide.{decLt}
 use native.Mathlib.Omega.{arith}
 use borrow.Author.Tests.{lt-leb, le-ltb}
-use lib.ListN.{length}
+use lib.ListN.{getD, length}
+use lib.Dec.{leb, ltb}
 use lib.Bits.{differ}
+use Rattle.rules.specs.Number.{pick, bit}
 use Rattle.rules.specs.Picture.{spot, shown, drawn, sumFrom, darkened, lightened, litSpots}
 use Rattle.rules.proofs.Counted.{sum-add, lit-sum}
 use Rattle.rules.proofs.Drawn.{shown-lit}
@@ -90,7 +92,9 @@ module _ (f : ℕ → ℕ → ℕ) where
 
 module _ (pattern : List ℕ) (column row : ℕ) where
   shown-left : (x y : ℕ) → x < column → shown pattern column row x y ≡ 0
-  shown-left x y h = rw (lt-leb column x h)
+  shown-left x y h =
+      ap (λ within. pick (within && ltb x (column + 8) && leb row y && ltb y (row + length pattern)) (bit (7 - (x - column)) (getD pattern (y - row) 0)) 0)
+      (lt-leb column x h)
 
   shown-right : (x y : ℕ) → column + 8 ≤ x → shown pattern column row x y ≡ 0
   shown-right x y h = rw (le-ltb x (column + 8) h, and-false)

@@ -73,6 +73,10 @@ bits (suc n) a h =
     let last : suc n - 1 - n ≡ 0 = omega arith in
     rw (same 2 _ _ n at, bits n (a / 2) (omega (arith, pow-suc 2 n)), last) (omega arith)
 
+-- so two bytes with equal bits are equal
+pub same-byte : (a b : ℕ) → a < 256 → b < 256 → ((i : ℕ) → i < 8 → bit (7 - i) a ≡ bit (7 - i) b) → a ≡ b
+same-byte a b ha hb e = sym (bits 8 a ha) ∙ same 2 _ _ 8 e ∙ bits 8 b hb
+
 -- ---- a byte of eight spots
 
 pub byte-number : (f : ℕ → ℕ → ℕ) (x y : ℕ) → byteOf f x y ≡ number 2 8 (λ j. f (x + j) y)

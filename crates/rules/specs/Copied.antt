@@ -1,27 +1,22 @@
 -- Request Q-13: how many bytes the steps of a run copy into their records, as the rules give it; that this is the total of the count
 -- fields of the records that the run wrote; and the most that it can be.
 use mathlib.Core.Path.{_≡_}
-use mathlib.Core.Bool.{true, _&&_}
+use mathlib.Core.Bool.{true}
 use mathlib.Core.List.{List, [], _∷_}
 use Prim.Native.Nat.{ℕ, zero, suc, _+_, _-_, _*_, _≤_, min}
-use lib.ListN.{replicate}
-use lib.Dec.{T, eqb}
-use Rattle.rules.specs.declared.Edition.the-variants.{First}
+use lib.Dec.{eqb}
 use Rattle.rules.specs.declared.Machine.{Machine}
 use Rattle.rules.specs.declared.Op.{Op}
 use Rattle.rules.specs.declared.Op.the-variants.{Plain, AwaitKey, Call, Return, Clear, Draw, Decimal, Store, Fetch}
 use Rattle.rules.specs.declared.Op.the-variants.{Unlisted, MachineCode}
 use Rattle.rules.specs.Number.{pick}
-use Rattle.rules.specs.State.{memorySize, pictureSize, startAddress, fresh, upTo}
-use Rattle.rules.specs.Instruction.{decode}
-use Rattle.rules.specs.Picture.{drawn, darkened, litFirst, litSpots}
+use Rattle.rules.specs.State.{upTo}
 use Rattle.rules.specs.Memory.{over}
-use Rattle.rules.specs.Step.{refusalOf, litAfter, litRefusal, changeOf, after, row}
-use Rattle.rules.specs.Record.{placeSize, atCount, count, wordAt, recordWith}
+use Rattle.rules.specs.Step.{changeOf, row}
+use Rattle.rules.specs.Record.{atCount, count, wordAt}
 use Rattle.rules.specs.World.{World, world, boardOf, buffersFit, soundly}
-use Rattle.rules.specs.Load.{freshTrail}
 use Rattle.rules.specs.Call.{opAt, stepRefusal, stepped, step, ticked, lastRecord}
-use Rattle.rules.specs.Run.{tickedBy, runFrom, runRefusal, totalFrom, total, run}
+use Rattle.rules.specs.Run.{tickedBy, runRefusal, total, run}
 use Rattle.rules.specs.Typed.{TypedBoard}
 
 -- ---- as the rules give it
@@ -116,25 +111,3 @@ abbrev pub CopiedFewer : Type 0
 CopiedFewer =
     (ticks keys randoms : List ℕ) (w : World) → TypedBoard (boardOf w) → Throughout NoClear ticks keys randoms w
     → runCopied ticks keys randoms w ≤ 120 * (run ticks keys randoms w) .accepted
-
--- ---- A WORKED CASE, computed: A300, 611E, F155, D015 at the bottom edge, 00E0, F033 and F00A three times, with ticks between them, until
--- 0000 ends the run: 2, 16, 256 and 3 bytes
-
-abbrev start : World
-start =
-    let program : List ℕ = 0xA3 ∷ 0x00 ∷ 0x61 ∷ 0x1E ∷ 0xF1 ∷ 0x55 ∷ 0xD0 ∷ 0x15 ∷ 0x00 ∷ 0xE0 ∷ 0xF0 ∷ 0x33 ∷ 0xF0 ∷ 0x0A ∷ [] in
-    world (fresh First memorySize) freshTrail (over (replicate memorySize 0) startAddress program 14) (replicate pictureSize 0) (replicate (2 * placeSize) 0)
-
-abbrev ticks : List ℕ
-ticks = 0 ∷ 1 ∷ 0 ∷ 2 ∷ 0 ∷ 0 ∷ 3 ∷ 0 ∷ 0 ∷ 5 ∷ []
-
--- key 3 goes down at the second F00A, and up at the third
-abbrev keys : List ℕ
-keys = 0 ∷ 0 ∷ 0 ∷ 0 ∷ 0 ∷ 0 ∷ 0 ∷ 8 ∷ 0 ∷ 0 ∷ []
-
-abbrev randoms : List ℕ
-randoms = replicate 10 0
-
-copies : T (eqb ((run ticks keys randoms start) .accepted) 9 && eqb (runCopied ticks keys randoms start) 277 && eqb (runWrote ticks keys randoms start) 277)
-unfolding decode drawn darkened litFirst litSpots refusalOf litAfter litRefusal changeOf after recordWith step stepRefusal stepped ticked runFrom runRefusal run total totalFrom copiedOf stepCopied ticksWrote runWroteFrom runWrote
-copies = tt

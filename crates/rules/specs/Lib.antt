@@ -1,4 +1,4 @@
--- The rules of document 01 as definitions, and what is claimed of them: Cases, Button, Rows, Copied, Editions, Twice, Lit, Past and Promise. Read
+-- The rules of document 01 as definitions, and what is claimed of them: Rows, Copied, Editions, Twice, Lit, Past and Promise. Read
 -- them in this order; the proofs are in proofs/.
 pub mod Number
 pub mod Refusal
@@ -14,8 +14,6 @@ pub mod Load
 pub mod Call
 pub mod Run
 pub mod Dark
-pub mod Cases
-pub mod Button
 pub mod Typed
 pub mod Rows
 pub mod Copied

@@ -1,29 +1,26 @@
 -- Request Q-8: the number of lit spots is the picture's count after a load, each call that takes a state keeps it so, and then no change
 -- is refused for it.
 use mathlib.Core.Path.{_≡_}
-use mathlib.Core.Bool.{Bool, not, _&&_}
-use mathlib.Core.List.{List, [], _∷_, _++_}
+use mathlib.Core.Bool.{not}
+use mathlib.Core.List.{List, [], _∷_}
 use Prim.Native.Nat.{ℕ, _+_, _≤_}
-use lib.ListN.{replicate}
-use lib.Dec.{T, eqb}
+use lib.Dec.{eqb}
 use lib.Count.{ones}
 use Rattle.rules.specs.declared.Action.{Action}
 use Rattle.rules.specs.declared.Action.the-variants.{Step, Tick}
 use Rattle.rules.specs.declared.Change.{Change}
 use Rattle.rules.specs.declared.Change.the-variants.{Nothing, InMemory, InPicture}
 use Rattle.rules.specs.declared.Edition.{Edition}
-use Rattle.rules.specs.declared.Edition.the-variants.{First}
 use Rattle.rules.specs.declared.Refusal.the-variants.{NothingKept, BufferLength, Unsound, Damaged, NothingAhead}
-use Rattle.rules.specs.Number.{unless, same}
+use Rattle.rules.specs.Number.{unless}
 use Rattle.rules.specs.Refusal.{numberOf}
-use Rattle.rules.specs.State.{memorySize, spotCount, startAddress, fresh, withI, withLit}
-use Rattle.rules.specs.Instruction.{decode}
-use Rattle.rules.specs.Picture.{spot, drawn, sumFrom, darkened, litFirst, litSpots}
+use Rattle.rules.specs.State.{spotCount}
+use Rattle.rules.specs.Picture.{spot, sumFrom, litSpots}
 use Rattle.rules.specs.Memory.{part, over}
-use Rattle.rules.specs.Record.{placeSize, damaged, kindSound, changeAt, actionAt, recordWith}
-use Rattle.rules.specs.Step.{Board, refusalOf, litAfter, litRefusal, changeOf, after, pictureAfter}
-use Rattle.rules.specs.World.{World, Answer, world, boardOf, buffersFit, soundly}
-use Rattle.rules.specs.Load.{freshTrail, load}
+use Rattle.rules.specs.Record.{damaged, kindSound, changeAt, actionAt}
+use Rattle.rules.specs.Step.{Board, changeOf, after, pictureAfter}
+use Rattle.rules.specs.World.{World, world, boardOf, buffersFit, soundly}
+use Rattle.rules.specs.Load.{load}
 use Rattle.rules.specs.Call.{opAt, stepBoard, changeBy, step, stepTests, stepOwn, stepRefusal, stepped}
 use Rattle.rules.specs.Call.{back, backRefusal, lastRecord, undone, forward, forwardRefusal, nextRecord, redone}
 use Rattle.rules.specs.Run.{runRefusal, run, playRefusal, play, EachCall}
@@ -137,30 +134,3 @@ abbrev pub PlayTrue : Type 0
 PlayTrue =
     (moves keys randoms : List ℕ) (w : World) → Below 256 (w .history) → TypedBoard (boardOf w) → TrueLit w
     → playRefusal moves keys randoms w ≡ 0 → (play moves keys randoms w) .refusal ≡ numberOf Unsound → ⊥
-
--- ---- a worked case, computed: a drawing took three of four lit spots away; a step back gives them back, and a step forward takes them
--- again; each with a number that just passes, and with one that does not: then all is as it came
-
-abbrev shows : ℕ → List ℕ
-shows b = b ∷ replicate 255 0
-
-abbrev before : World
-before =
-    let memory = over (over (replicate memorySize 0) startAddress (0xD0 ∷ 0x11 ∷ []) 2) 0x0300 (0x70 ∷ []) 1 in
-    world (withLit 4 (withI 0x0300 (fresh First memorySize))) freshTrail memory (shows 0xF0) (replicate placeSize 0)
-
--- the same world, where somebody else wrote another number
-abbrev told : ℕ → World → World
-told n w = world (withLit n (w .machine)) (w .trail) (w .memory) (w .picture) (w .history)
-
-abbrev gives : Answer → ℕ → ℕ → ℕ → Bool
-gives a refusal lit b = eqb (a .refusal) refusal && eqb (a .world .machine .lit) lit && same (a .world .picture) (shows b)
-
-goes : T
-    (let one = step 0 0 before in
-    let two = back (one .world) in
-    gives one 0 1 0x80 && gives two 0 4 0xF0
-    && gives (back (told 2045 (one .world))) 0 2048 0xF0 && gives (back (told 2046 (one .world))) 10 2046 0x80
-    && gives (forward (told 3 (two .world))) 0 0 0x80 && gives (forward (told 2 (two .world))) 10 2 0xF0)
-unfolding decode drawn darkened litFirst litSpots refusalOf litAfter litRefusal changeOf after recordWith step stepRefusal stepped back backRefusal undone forward forwardRefusal redone
-goes = tt

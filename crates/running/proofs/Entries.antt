@@ -17,15 +17,14 @@ use Rattle.rules.specs.declared.Outcome.the-variants.{Done, Refused}
 use Rattle.rules.specs.Number.{pick}
 use Rattle.rules.specs.Refusal.{number}
 use Rattle.rules.specs.World.{World, Answer, world}
-use Rattle.rules.specs.Call.{step, stepRefusal}
+use Rattle.rules.specs.Call.{step}
 use Rattle.rules.specs.Run.{Ran, tickedBy, runFrom, totalFrom, total, listsFit, run, runRefusal}
 use Rattle.rules.specs.Dark.{stepDark}
 use Rattle.rules.specs.Copied.{stepCopied}
 use Rattle.rules.specs.Promise.{Gives, GivesRun}
-use Rattle.rules.proofs.Choices.{by-test}
 use Rattle.rules.proofs.Given.{tests, handed, refused-some}
 use Rattle.rules.proofs.Ready.{Ready, step-ready, ticks-ready}
-use Rattle.running.proofs.Ticks.{gives-world, world-gives}
+use Rattle.entries.proofs.Ticks.{gives-world, world-gives}
 
 pub record SameLength (first ks rs : List ℕ) : Type 0 where
   pub keys : length ks ≡ length first

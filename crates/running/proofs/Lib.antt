@@ -1,3 +1,2 @@
--- Ticks and entries, one after the other.
-pub mod Ticks
+-- Entries, one after the other.
 pub mod Entries

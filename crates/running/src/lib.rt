@@ -1,84 +1,21 @@
 // A run, entry by entry. The variables and the stack are two locals of the run, lent to each step, so a step copies neither.
 ghost use mathlib.Core.Path.{_≡_};
-ghost use mathlib.Core.Bool.{true, _&&_};
-ghost use mathlib.Core.List.{List};
-ghost use Prim.Native.Nat.{ℕ, _*_, _≤_};
+ghost use mathlib.Core.Bool.{true};
+ghost use Prim.Native.Nat.{_*_, _≤_};
 ghost use Rattle.rules.specs.World.{world};
-ghost use Rattle.rules.specs.Run.{tickedBy, runFrom, totalFrom, unrefused, listsFit};
+ghost use Rattle.rules.specs.Run.{runFrom, totalFrom, listsFit};
 ghost use Rattle.rules.specs.Run as runs;
 ghost use Rattle.rules.specs.Dark.{stepDark, runDark};
 ghost use Rattle.rules.specs.Copied.{stepCopied, runCopied};
-ghost use Rattle.rules.specs.Promise.{Gives, GivesRun};
+ghost use Rattle.rules.specs.Promise.{GivesRun};
 ghost use Rattle.rules.specs.Rows.{bytesOf};
 ghost use Rattle.rules.proofs.Ready.{Ready};
 ghost use Rattle.parts.specs.Whole.{whole};
-ghost use Rattle.moves.specs.Inner.{Tickable};
-ghost use Rattle.moves.specs.Steps.{Made};
-use moves::Moved;
 use parts::Core;
 use parts::Ran;
 use rules::Machine;
 use rules::Outcome;
 use rules::Trail;
-
-// So many ticks.
-fn ticks_of(
-    c: Core,
-    v: &[u8; 16],
-    stack: &[u16; Machine::STACK],
-    trail: Trail,
-    history: &mut [u8],
-    count: u8,
-) -> Moved
-    requires { ⌜ Tickable (whole c (now v) (now stack)) trail (now history) ⌝ }
-    ensures { λ r. ⌜
-        ((memory picture : List ℕ) → Gives
-        (unrefused
-        (tickedBy count (world (whole c (now (v .entry)) (now (stack .entry))) trail memory picture (now (history .entry)))))
-        (r .outcome) (whole (r .core) (now (v .entry)) (now (stack .entry))) (r .trail) memory picture (now (history .exit))) ⌝ }
-{
-    let mut c = c;
-    let mut t = trail;
-    let mut left = count;
-    while 0 < left {
-        let moved = moves::tick(c, v, stack, t, history);
-        let next_core = moved.core;
-        let next_trail = moved.trail;
-        c = next_core;
-        t = next_trail;
-        left -= 1;
-    }
-    Moved {
-        outcome: Outcome::Done,
-        core: c,
-        trail: t,
-    }
-}
-
-// One entry: its ticks, then its step.
-fn entry(
-    c: Core,
-    v: &mut [u8; 16],
-    stack: &mut [u16; Machine::STACK],
-    trail: Trail,
-    memory: &mut [u8],
-    rows: &mut [u64],
-    history: &mut [u8],
-    ticks: u8,
-    keys: u16,
-    random: u8,
-) -> moves::Stepped
-    requires { ⌜ Ready (world (whole c (now v) (now stack)) trail (now memory) (bytesOf (now rows)) (now history)) ⌝ }
-    ensures { λ r. ⌜ Made keys random
-        (tickedBy ticks
-        (world (whole c (now (v .entry)) (now (stack .entry))) trail (now (memory .entry)) (bytesOf (now (rows .entry)))
-        (now (history .entry)))) r (now (v .exit)) (now (stack .exit)) (now (memory .exit)) (bytesOf (now (rows .exit))) (now (history .exit)) ⌝ }
-{
-    let ticked = ticks_of(c, v, stack, trail, history, ticks);
-    let core = ticked.core;
-    let t = ticked.trail;
-    moves::step(core, v, stack, t, memory, rows, history, keys, random)
-}
 
 // What a run answers where it ends.
 fn ran(
@@ -134,7 +71,7 @@ fn run_ready(
     let mut copied = 0;
     let mut i = 0;
     while i < ticks.len() {
-        let moved = entry(
+        let moved = entries::entry(
             c,
             &mut v,
             &mut stack,
@@ -182,7 +119,7 @@ pub fn run(
         (world machine trail (now (memory .entry)) (bytesOf (now (rows .entry))) (now (history .entry))))
         × (r .copied ≤ 256 * r .accepted) ⌝ }
 {
-    let lists = judge::lists_fit(ticks.len(), keys.len(), randoms.len());
+    let lists = fitting::lists_fit(ticks.len(), keys.len(), randoms.len());
     let outcome = judge::admitted(machine, trail, memory, rows, history, lists);
     let Outcome::Done = outcome else {
         return Ran {

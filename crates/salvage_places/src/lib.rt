@@ -88,7 +88,7 @@ pub fn clear_others(history: &mut [u8], next: usize, row: usize)
     ensures { λ _. ⌜ now (history .exit) ≡
         clearing.cleared (rule.others (fit.places (now (history .entry))) next row) (now (history .entry)) ⌝ }
 {
-    let places = judge::places(history);
+    let places = fitting::places(history);
     let mut p = 0;
     while p < places {
         clear_other(history, places, next, row, p);

@@ -10,7 +10,7 @@ pub fn row_length(history: &[u8], end: u16, kept: usize, next: usize, depth: u8)
     requires { ⌜ next < fit.places (now history) ⌝ }
     ensures { λ r. ⌜ r ≡ rule.row end (now (history .entry)) kept next depth ⌝ }
 {
-    let places = judge::places(history);
+    let places = fitting::places(history);
     let mut n = next;
     let mut d = depth;
     let mut k = 0;

@@ -20,7 +20,7 @@ use Rattle.rules.specs.Call.{tick, ticked, tickRefusal}
 use Rattle.rules.specs.Run.{unrefused}
 use Rattle.rules.proofs.Sound.{sound-parts}
 use Rattle.rules.proofs.Given.{Back, given-refused, answered-done, both-passed}
-use Rattle.moves.specs.Inner.{Tickable}
+use Rattle.ticking.specs.Tickable.{Tickable}
 
 pub tick-refused : (w : World) (r : Refusal) → number (Refused r) ≡ unless (historyFits (w .history)) 9 (unless (soundly w) 10 0)
     → Back (tick w) (Refused r) w

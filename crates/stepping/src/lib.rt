@@ -62,7 +62,7 @@ pub fn tick(machine: Machine, trail: Trail, history: &mut [u8]) -> Answer
         ((memory picture : List ℕ) → Gives (rule.tick (world machine trail memory picture (now (history .entry))))
         (r .outcome) (r .machine) (r .trail) memory picture (now (history .exit))) ⌝ }
 {
-    let fits = judge::history_fits(history);
+    let fits = fitting::history_fits(history);
     let outcome = judge::tested(fits, judge::soundly(machine, trail, history));
     let Outcome::Done = outcome else {
         return Answer {
@@ -73,7 +73,7 @@ pub fn tick(machine: Machine, trail: Trail, history: &mut [u8]) -> Answer
     };
     let v = machine.v;
     let stack = machine.stack;
-    let moved = moves::tick(parts::core_of(machine), &v, &stack, trail, history);
+    let moved = ticking::tick(parts::core_of(machine), &v, &stack, trail, history);
     let ticked = moved.outcome;
     let core = moved.core;
     let grown = moved.trail;

@@ -134,7 +134,7 @@ pub fn draw(
 {
     let column = (registers::get(v, x) % 64) as usize;
     let row = row_of(v, y) as usize;
-    let spots = picture::draw(rows, place, at, pattern, column, row);
+    let spots = drawing::draw(rows, place, at, pattern, column, row);
     let lit = lit::counted(c.lit, spots);
     let dark = spots.dark;
     let flagged = registers::put(c, v, 0xF, registers::flag(0 < dark));

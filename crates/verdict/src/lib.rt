@@ -49,7 +49,7 @@ fn late_drawing(lit: u16, v: &[u8; 16], x: u8, y: u8, pattern: &[u8], rows: &[u6
     }
     let column = (registers::get(v, x) % 64) as usize;
     let row = transfers::row_of(v, y) as usize;
-    lit::late(lit, picture::would_turn(rows, pattern, column, row))
+    lit::late(lit, drawing::would_turn(rows, pattern, column, row))
 }
 
 // The same of 00E0, which takes away what is lit.

@@ -8,7 +8,7 @@ use lib.ListN.{take, length}
 use Rattle.rules.specs.Memory.{over}
 use Rattle.rules.specs.Rows.{byteIn, eightOf}
 use Rattle.rules.proofs.Turning.{listed-length}
-use Rattle.keeping.proofs.Numbers.{overlapped}
+use Rattle.keeping.proofs.Overlap.{overlapped}
 use Rattle.keeping.proofs.lay_fields.Statement.{statement}
 use Rattle.keeping.proofs.lay_fields.Tie as tie
 

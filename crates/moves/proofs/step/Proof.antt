@@ -1,22 +1,19 @@
 -- Too far, or one of the three ways: the way is taken by which instruction it is.
-use mathlib.Core.Path.{_≡_, refl, _∙_, sym, ap}
-use mathlib.Core.List.{List, [], _∷_}
-use Prim.Native.Nat.{ℕ}
+use mathlib.Core.Path.{_≡_, refl, _∙_, sym}
+use mathlib.Core.List.{[], _∷_}
 use native.Mathlib.Omega.{arith}
 use denote.Enum.Declared.{tagOf}
 use types.Run.{OneOf, miss}
-use borrow.Author.Needs.{needs}
 use Rattle.rules.proofs.Op.{the-type}
 use Rattle.rules.specs.declared.Op.{Op}
 use Rattle.rules.specs.declared.Op.the-variants.{Plain, AwaitKey, Call, Return, Clear, Draw, Decimal, Store, Fetch}
 use Rattle.rules.specs.declared.Op.the-variants.{Unlisted, MachineCode}
-use Rattle.rules.specs.World.{World, world, boardOf}
-use Rattle.rules.specs.Call.{opAt}
+use Rattle.rules.specs.World.{World, world}
 use Rattle.rules.specs.Rows.{bytesOf}
 use Rattle.parts.specs.Whole.{whole}
 use Rattle.transfers.specs.Other.{Other}
-use Rattle.moves.specs.Steps.{Reached}
-use Rattle.moves.proofs.OneStep.{far, far-dark, far-copied, back}
+use Rattle.ways.specs.Steps.{Reached}
+use Rattle.ways.proofs.OneStep.{far, far-dark, far-copied, back}
 use Rattle.moves.proofs.step.Statement.{statement}
 use Rattle.moves.proofs.step.Tie as tie
 
@@ -78,7 +75,7 @@ other-step-requires c κs =
 
 pub step-spec : {M : Type 1} → statement M
 step-spec =
-    tie.close (tie.spec (search needs) (search needs) sub-if1 (search needs) returns (search needs) (search needs) (search needs) (search needs) (search needs)
-    plain-step-requires (search needs) (search needs) (search needs) (λ c. c .before .before .plain-step .ensures)
-    (search needs) drawing-step-requires (search needs) (search needs) (search needs) (λ c. c .before .before .before .before .drawing-step .ensures)
-    other-step-requires (search needs) (search needs) (search needs) (λ c. c .before .before .before .before .before .before .other-step .ensures))
+    tie.close (tie.spec (λ c. omega arith) (λ c. omega arith) sub-if1 (λ c. omega arith) returns (λ c. omega arith) (λ c. omega arith) (λ c. omega arith) (λ c. omega arith) (λ c. omega arith)
+    plain-step-requires (λ c. omega arith) (λ c. omega arith) (λ c. omega arith) (λ c. c .before .before .plain-step .ensures)
+    (λ c. omega arith) drawing-step-requires (λ c. omega arith) (λ c. omega arith) (λ c. omega arith) (λ c. c .before .before .before .before .drawing-step .ensures)
+    other-step-requires (λ c. omega arith) (λ c. omega arith) (λ c. omega arith) (λ c. c .before .before .before .before .before .before .other-step .ensures))

@@ -1,0 +1,2 @@
+-- The four numbers of an answer.
+pub mod Answer

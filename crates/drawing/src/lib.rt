@@ -1,0 +1,109 @@
+// A pattern drawn into the picture: its rows are kept and turned over in one pass, and counted.
+ghost use mathlib.Core.Path.{_≡_};
+ghost use Prim.Native.Nat.{_+_, _-_, _*_, _≤_, _<_, min};
+ghost use lib.ListN.{length};
+ghost use Rattle.rules.specs.Memory.{part, over};
+ghost use Rattle.rules.specs.Picture.{drawn};
+ghost use Rattle.rules.specs.Step.{rowBytes};
+ghost use Rattle.rules.specs.Rows.{bytesOf};
+ghost use Rattle.picture.specs.Sums.{between};
+ghost use Rattle.pattern.specs.Masks.{metAt, showsAt};
+ghost use Rattle.drawing.specs.Turned.{Turned};
+ghost use Rattle.drawing.specs.Turns.{Turns};
+use pattern::Met;
+use picture::Spots;
+
+fn least(a: usize, b: usize) -> usize
+    ensures { λ r. ⌜ r ≡ min a b ⌝ }
+{
+    if a < b { a } else { b }
+}
+
+// At most eight rows of the pattern. Each row is kept, as its eight bytes, and turned over; what it had under the pattern is noted in a byte.
+// The bytes of all rows fit one number, and are counted at the end.
+fn eight(
+    rows: &mut [u64],
+    place: &mut [u8],
+    at: usize,
+    pattern: &[u8],
+    column: usize,
+    row: usize,
+    from: usize,
+    to: usize,
+) -> Met
+    requires { ⌜ (length (now rows) ≡ 32) × (column < 64) × (row ≤ from) × (to ≤ 32) × (to ≤ row + length (now pattern)) ⌝ }
+    requires { ⌜ (from ≤ to) × (to ≤ from + 8) × (at + 8 * (to - from) ≤ length (now place)) ⌝ }
+    ensures { λ r. ⌜ Turned (now (pattern .entry)) column row from to (now (rows .entry)) (now (rows .exit)) ⌝ }
+    ensures { λ r. ⌜
+        now (place .exit)
+        ≡ over (now (place .entry)) at (part (bytesOf (now (rows .entry))) (8 * from) (8 * (to - from))) (8 * (to - from)) ⌝ }
+    ensures { λ r. ⌜
+        (r .dark ≡ between (metAt (now (pattern .entry)) column row (now (rows .entry))) from to)
+        × (r .all ≡ between (showsAt (now (pattern .entry)) column row) from to) ⌝ }
+    ensures { λ r. ⌜ (r .dark ≤ 64) × (r .all ≤ 8 * (to - from)) ⌝ }
+{
+    let mut stood = 0;
+    let mut bits = 0;
+    let mut y = from;
+    while y < to {
+        let p = picture::wide(pattern[y - row]);
+        let n = rows[y];
+        memory::lay_eight(place, at + 8 * (y - from), n);
+        stood = (stood << 8) | pattern::under(n, column);
+        bits = (bits << 8) | p;
+        rows[y] = n ^ pattern::mask_of(p, column);
+        y += 1;
+    }
+    pattern::met_of(stood, bits, column)
+}
+
+// Draws the pattern with its upper left corner in that column and row, and says what that turned over. The rows as they were are laid into
+// a place for them, from `at` on: so each is read once, and a step passes over them once.
+pub fn draw(
+    rows: &mut [u64],
+    place: &mut [u8],
+    at: usize,
+    pattern: &[u8],
+    column: usize,
+    row: usize,
+) -> Spots
+    requires { ⌜ (length (now rows) ≡ 32) × (column < 64) × (row < 32) × (length (now pattern) ≤ 16) × (at + 128 ≤ length (now place)) ⌝ }
+    ensures { λ r. ⌜ bytesOf (now (rows .exit)) ≡ drawn (now (pattern .entry)) column row (bytesOf (now (rows .entry))) ⌝ }
+    ensures { λ r. ⌜ now (place .exit) ≡ over (now (place .entry)) at
+        (part (bytesOf (now (rows .entry))) (8 * row) (rowBytes (length (now (pattern .entry))) row)) (rowBytes (length (now (pattern .entry))) row) ⌝ }
+    ensures { λ r. ⌜ Turns (now (pattern .entry)) column row (bytesOf (now (rows .entry))) r ⌝ }
+{
+    let end = row + least(pattern.len(), 32 - row);
+    let middle = least(row + 8, end);
+    let upper = eight(rows, place, at, pattern, column, row, row, middle);
+    let below = at + 8 * (middle - row);
+    let lower = eight(rows, place, below, pattern, column, row, middle, end);
+    let dark = upper.dark + lower.dark;
+    Spots {
+        dark,
+        lit: upper.all + lower.all - dark,
+    }
+}
+
+fn copied(rows: &[u64]) -> [u64; 32]
+    requires { ⌜ length (now rows) ≡ 32 ⌝ }
+    ensures { λ r. ⌜ r ≡ now (rows .entry) ⌝ }
+{
+    let mut copy = [0; 32];
+    let mut i = 0;
+    while i < 32 {
+        copy[i] = rows[i];
+        i += 1;
+    }
+    copy
+}
+
+// What drawing the pattern there would turn over. It is drawn into a copy: so one function counts, before and while it is written.
+pub fn would_turn(rows: &[u64], pattern: &[u8], column: usize, row: usize) -> Spots
+    requires { ⌜ (length (now rows) ≡ 32) × (column < 64) × (row < 32) × (length (now pattern) ≤ 16) ⌝ }
+    ensures { λ r. ⌜ Turns (now (pattern .entry)) column row (bytesOf (now (rows .entry))) r ⌝ }
+{
+    let mut copy = copied(rows);
+    let mut unread = [0; 128];
+    draw(&mut copy, &mut unread, 0, pattern, column, row)
+}

@@ -1,0 +1,2 @@
+-- What is known of a drawing's pattern and of its rows.
+pub mod Pattern

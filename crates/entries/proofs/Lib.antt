@@ -1,0 +1,2 @@
+-- Ticks, one after the other.
+pub mod Ticks

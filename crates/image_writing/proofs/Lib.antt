@@ -1,0 +1,2 @@
+-- What stands in an image while it is laid.
+pub mod Pieces

@@ -1,0 +1,2 @@
+-- How an image is laid, piece by piece.
+pub mod Laid

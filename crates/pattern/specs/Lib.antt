@@ -1,0 +1,2 @@
+-- Masks: a pattern on rows, row by row.
+pub mod Masks
