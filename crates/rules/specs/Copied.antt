@@ -11,7 +11,6 @@ use Rattle.rules.specs.declared.Op.the-variants.{Plain, AwaitKey, Call, 
 use Rattle.rules.specs.declared.Op.the-variants.{Unlisted, MachineCode}
 use Rattle.rules.specs.Number.{pick}
 use Rattle.rules.specs.State.{upTo}
-use Rattle.rules.specs.Memory.{over}
 use Rattle.rules.specs.Step.{changeOf, row}
 use Rattle.rules.specs.Record.{atCount, count, wordAt}
 use Rattle.rules.specs.World.{World, world, boardOf, buffersFit, soundly}

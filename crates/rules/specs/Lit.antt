@@ -16,9 +16,9 @@ use Rattle.rules.specs.Number.{unless}
 use Rattle.rules.specs.Refusal.{numberOf}
 use Rattle.rules.specs.State.{spotCount}
 use Rattle.rules.specs.Picture.{spot, sumFrom, litSpots}
-use Rattle.rules.specs.Memory.{part, over}
+use Rattle.rules.specs.Memory.{part}
 use Rattle.rules.specs.Record.{damaged, kindSound, changeAt, actionAt}
-use Rattle.rules.specs.Step.{Board, changeOf, after, pictureAfter}
+use Rattle.rules.specs.Step.{Board, changeOf, pictureAfter}
 use Rattle.rules.specs.World.{World, world, boardOf, buffersFit, soundly}
 use Rattle.rules.specs.Load.{load}
 use Rattle.rules.specs.Call.{opAt, stepBoard, changeBy, step, stepTests, stepOwn, stepRefusal, stepped}

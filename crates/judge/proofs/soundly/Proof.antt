@@ -1,5 +1,4 @@
 -- Both tests are the callees', and so is what the types say of the machine.
-use borrow.Author.Needs.{needs}
 use Rattle.judge.proofs.soundly.Statement.{statement}
 use Rattle.judge.proofs.soundly.Tie as tie
 

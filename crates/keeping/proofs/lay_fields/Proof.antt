@@ -1,10 +1,10 @@
 -- Two numbers, the second over the end of the first, are all fourteen bytes.
-use mathlib.Core.Path.{_≡_, sym, ap, ap₂, _∙_}
+use mathlib.Core.Path.{ap, ap₂, _∙_}
 use mathlib.Core.List.{List, _++_}
 use Prim.Native.Nat.{ℕ, _+_}
 use native.Mathlib.Omega.{arith}
 use borrow.Author.Needs.{needs}
-use lib.ListN.{take, length}
+use lib.ListN.{take}
 use Rattle.rules.specs.Memory.{over}
 use Rattle.rules.specs.Rows.{byteIn, eightOf}
 use Rattle.rules.proofs.Turning.{listed-length}
