@@ -52,32 +52,29 @@ const DIGITS: [u8; 80] = [
 
 // ---- The working state ----------------------------------------------------
 
-/// V0 to VF as one number, V0 highest. A byte written into an array and read
-/// back as sixteen would have to wait for the write; a number need not.
+/// V0 to VF.
 #[derive(Clone, Copy)]
-struct Registers(u128);
+struct Registers([u8; 16]);
 
 impl Registers {
     #[inline(always)]
-    fn get(self, x: usize) -> u8 {
-        (self.0 >> (8 * (15 - (x & 15)))) as u8
+    fn get(&self, x: usize) -> u8 {
+        self.0[x & 15]
     }
 
     #[inline(always)]
     fn set(&mut self, x: usize, value: u8) {
-        let shift = 8 * (15 - (x & 15));
-        self.0 = self.0 & !(0xFF << shift) | u128::from(value) << shift;
+        self.0[x & 15] = value;
     }
 
     #[inline(always)]
     fn set_flag(&mut self, flag: bool) {
-        self.0 = self.0 & !0xFF | u128::from(flag);
+        self.0[15] = u8::from(flag);
     }
 }
 
-/// All of a record but its old bytes, held in numbers.
+/// All of a record but its variables and its old bytes, held in numbers.
 struct Head {
-    v: u128,
     /// I, PC, depth, last return address, delay: bytes 18 to 25.
     middle: u64,
     /// Tone, held key, start, count: bytes 26 to 31.
@@ -105,11 +102,9 @@ impl Head {
 
     #[inline(always)]
     fn write(&self, bytes: &mut [u8; 32]) {
-        let mark = u128::from(u16::from_be_bytes(self.mark));
-        let first = mark << 112 | self.v >> 16;
-        let second = self.v << 112 | u128::from(self.middle) << 48 | u128::from(self.end);
-        bytes[..16].copy_from_slice(&first.to_be_bytes());
-        bytes[16..].copy_from_slice(&second.to_be_bytes());
+        bytes[..2].copy_from_slice(&self.mark);
+        bytes[18..26].copy_from_slice(&self.middle.to_be_bytes());
+        bytes[24..32].copy_from_slice(&(self.middle << 48 | self.end).to_be_bytes());
     }
 }
 
@@ -179,7 +174,7 @@ impl Work {
         }
         let v = image.first_chunk().expect("64 bytes hold 16");
         Some(Work {
-            v: Registers(u128::from_be_bytes(*v)),
+            v: Registers(*v),
             i: number(image, 16),
             pc: number(image, 18),
             depth,
@@ -202,7 +197,7 @@ impl Work {
     /// use are 0, or it had been refused.
     #[inline(always)]
     fn write(&self, image: &mut Image) {
-        image[..16].copy_from_slice(&self.v.0.to_be_bytes());
+        image[..16].copy_from_slice(&self.v.0);
         image[16..18].copy_from_slice(&self.i.to_be_bytes());
         image[18..20].copy_from_slice(&self.pc.to_be_bytes());
         image[20] = self.depth;
@@ -235,7 +230,6 @@ impl Work {
     fn head(&self, inputs: u32) -> Head {
         let last = self.stack[usize::from(self.depth.wrapping_sub(1) & 15)];
         Head {
-            v: self.v.0,
             middle: u64::from(self.i) << 48
                 | u64::from(self.pc) << 32
                 | u64::from(self.depth) << 24
@@ -247,18 +241,21 @@ impl Work {
         }
     }
 
-    /// Writes the place at next with the head and zeros, moves on, and lends the
-    /// zeros for the old bytes.
+    /// Writes the place at next with the head, zeros and the variables, moves on,
+    /// and lends the zeros for the old bytes. The variables come last: sixteen bytes
+    /// read at once wait for a byte among them that the last step wrote.
     #[inline(always)]
     fn record<'a>(&mut self, places: &'a mut [Place], head: &Head) -> &'a mut [u8; 256] {
-        let old = self.place(places, head);
-        clear(old);
-        old
+        let v = self.v.0;
+        let place = self.place(places, head);
+        clear(old_of(place));
+        place[2..18].copy_from_slice(&v);
+        old_of(place)
     }
 
-    /// The same, but the old bytes are as they came.
+    /// The same, but the variables and the old bytes are as they came.
     #[inline(always)]
-    fn place<'a>(&mut self, places: &'a mut [Place], head: &Head) -> &'a mut [u8; 256] {
+    fn place<'a>(&mut self, places: &'a mut [Place], head: &Head) -> &'a mut Place {
         let count = places.len();
         let place = &mut places[self.next];
         self.next += 1;
@@ -268,9 +265,8 @@ impl Work {
         self.kept += usize::from(self.kept < count);
         let (first, rest) = place.split_first_chunk_mut().expect("292 hold 32");
         head.write(first);
-        let (old, inputs) = rest.split_first_chunk_mut().expect("260 hold 256");
-        inputs.copy_from_slice(&head.inputs.to_be_bytes());
-        old
+        rest[256..].copy_from_slice(&head.inputs.to_be_bytes());
+        place
     }
 
     #[inline(always)]
@@ -300,12 +296,10 @@ impl Work {
         let x = usize::from(word >> 8 & 15);
         let y = usize::from(low >> 4);
         let address = word & 0x0FFF;
-        let (vx, vy) = (self.v.get(x), self.v.get(y));
         let mut head = self.head(step_with(keys, random));
         let mut pc = self.pc + 2;
-        let skip = |condition: bool| 2 * u16::from(condition);
-        let mut held = NO_KEY;
 
+        // What can be refused is judged, and what keeps old bytes is done here.
         match word >> 12 {
             0x0 => match address {
                 0x0E0 => {
@@ -316,7 +310,10 @@ impl Work {
                     self.lit = lit;
                     head.mark(b"DI", 0, PICTURE);
                     self.copied += PICTURE as u64;
-                    write_bytes(rows, self.place(places, &head));
+                    let v = self.v.0;
+                    let place = self.place(places, &head);
+                    write_bytes(rows, old_of(place));
+                    place[2..18].copy_from_slice(&v);
                     rows.fill(0);
                     self.pc = pc;
                     self.held = NO_KEY;
@@ -326,73 +323,29 @@ impl Work {
                     if self.depth == 0 {
                         return STACK_EMPTY;
                     }
-                    self.depth -= 1;
-                    let entry = &mut self.stack[usize::from(self.depth & 15)];
-                    pc = *entry;
-                    *entry = 0;
                 }
                 _ => return MACHINE_LANGUAGE,
             },
-            0x1 => pc = address,
             0x2 => {
                 if self.depth == 12 {
                     return STACK_FULL;
                 }
-                self.stack[usize::from(self.depth & 15)] = pc;
-                self.depth += 1;
-                pc = address;
             }
-            0x3 => pc += skip(vx == low),
-            0x4 => pc += skip(vx != low),
-            0x5 if low & 15 == 0 => pc += skip(vx == vy),
-            0x6 => self.v.set(x, low),
-            0x7 => self.v.set(x, vx.wrapping_add(low)),
-            0x8 => match low & 15 {
-                0x0 => self.v.set(x, vy),
-                0x1 => {
-                    self.v.set(x, vx | vy);
-                    self.v.set_flag(false);
+            0x5 | 0x9 => {
+                if low & 15 != 0 {
+                    return NOT_LISTED;
                 }
-                0x2 => {
-                    self.v.set(x, vx & vy);
-                    self.v.set_flag(false);
+            }
+            0x8 => {
+                let listed = if self.second_edition { 0x40FF } else { 0x0037 };
+                if listed >> (low & 15) & 1 == 0 {
+                    return NOT_LISTED;
                 }
-                0x4 => {
-                    let (sum, passed) = vx.overflowing_add(vy);
-                    self.v.set(x, sum);
-                    self.v.set_flag(passed);
-                }
-                0x5 => {
-                    self.v.set(x, vx.wrapping_sub(vy));
-                    self.v.set_flag(vx >= vy);
-                }
-                0x3 if self.second_edition => {
-                    self.v.set(x, vx ^ vy);
-                    self.v.set_flag(false);
-                }
-                0x6 if self.second_edition => {
-                    self.v.set(x, vy >> 1);
-                    self.v.set_flag(vy & 1 != 0);
-                }
-                0x7 if self.second_edition => {
-                    self.v.set(x, vy.wrapping_sub(vx));
-                    self.v.set_flag(vy >= vx);
-                }
-                0xE if self.second_edition => {
-                    self.v.set(x, vy << 1);
-                    self.v.set_flag(vy & 0x80 != 0);
-                }
-                _ => return NOT_LISTED,
-            },
-            0x9 if low & 15 == 0 => pc += skip(vx != vy),
-            0xA => self.i = address,
-            0xB => pc = address + u16::from(self.v.get(0)),
-            0xC => self.v.set(x, random & low),
+            }
             0xD => {
                 let n = usize::from(low & 15);
-                if n == 0 {
-                    self.v.set_flag(false);
-                } else {
+                if n != 0 {
+                    let (vx, vy) = (self.v.get(x), self.v.get(y));
                     let i = usize::from(self.i);
                     let Some(pattern) = memory.get(i..i + n).filter(|_| i + n <= self.end()) else {
                         return PAST_MEMORY;
@@ -445,33 +398,14 @@ impl Work {
                 }
             }
             0xE => {
-                let down = keys >> (vx & 15) & 1 == 1;
-                match low {
-                    0x9E => pc += skip(down),
-                    0xA1 => pc += skip(!down),
-                    _ => return NOT_LISTED,
+                if low != 0x9E && low != 0xA1 {
+                    return NOT_LISTED;
                 }
             }
             0xF => match low {
-                0x07 => self.v.set(x, self.delay),
-                0x0A => {
-                    if self.held == NO_KEY {
-                        pc = self.pc;
-                        if keys != 0 {
-                            held = keys.trailing_zeros() as u8;
-                        }
-                    } else if keys >> (self.held & 15) & 1 == 1 {
-                        pc = self.pc;
-                        held = self.held;
-                    } else {
-                        self.v.set(x, self.held);
-                    }
-                }
-                0x15 => self.delay = vx,
-                0x18 => self.tone = vx,
-                0x1E => self.i = self.i.wrapping_add(u16::from(vx)),
-                0x29 => self.i = 5 * u16::from(vx & 15),
+                0x07 | 0x0A | 0x15 | 0x18 | 0x1E | 0x29 => {}
                 0x33 => {
+                    let vx = self.v.get(x);
                     let i = usize::from(self.i);
                     let fits = i + 3 <= self.end();
                     let Some(bytes) = memory.get_mut(i..i + 3).filter(|_| fits) else {
@@ -501,21 +435,108 @@ impl Work {
                     return 0;
                 }
                 0x65 => {
-                    let i = usize::from(self.i);
-                    if i + x + 1 > self.end() {
+                    if usize::from(self.i) + x + 1 > self.end() {
                         return PAST_MEMORY;
                     }
-                    fetch(memory, i, x, &mut self.v);
-                    self.i += x as u16 + 1;
                 }
                 _ => return NOT_LISTED,
             },
-            _ => return NOT_LISTED,
+            _ => {}
         }
 
-        // Only actions that keep no old bytes come here, so there is one
-        // place in the code that writes their record.
+        // The record comes before the act: so no instruction waits for it.
         self.record(places, &head);
+        let (vx, vy) = (self.v.get(x), self.v.get(y));
+        let skip = |condition: bool| 2 * u16::from(condition);
+        let mut held = NO_KEY;
+        match word >> 12 {
+            0x0 => {
+                self.depth -= 1;
+                let entry = &mut self.stack[usize::from(self.depth & 15)];
+                pc = *entry;
+                *entry = 0;
+            }
+            0x1 => pc = address,
+            0x2 => {
+                self.stack[usize::from(self.depth & 15)] = pc;
+                self.depth += 1;
+                pc = address;
+            }
+            0x3 => pc += skip(vx == low),
+            0x4 => pc += skip(vx != low),
+            0x5 => pc += skip(vx == vy),
+            0x6 => self.v.set(x, low),
+            0x7 => self.v.set(x, vx.wrapping_add(low)),
+            0x8 => match low & 15 {
+                0x0 => self.v.set(x, vy),
+                0x1 => {
+                    self.v.set(x, vx | vy);
+                    self.v.set_flag(false);
+                }
+                0x2 => {
+                    self.v.set(x, vx & vy);
+                    self.v.set_flag(false);
+                }
+                0x4 => {
+                    let (sum, passed) = vx.overflowing_add(vy);
+                    self.v.set(x, sum);
+                    self.v.set_flag(passed);
+                }
+                0x5 => {
+                    self.v.set(x, vx.wrapping_sub(vy));
+                    self.v.set_flag(vx >= vy);
+                }
+                0x3 => {
+                    self.v.set(x, vx ^ vy);
+                    self.v.set_flag(false);
+                }
+                0x6 => {
+                    self.v.set(x, vy >> 1);
+                    self.v.set_flag(vy & 1 != 0);
+                }
+                0x7 => {
+                    self.v.set(x, vy.wrapping_sub(vx));
+                    self.v.set_flag(vy >= vx);
+                }
+                _ => {
+                    self.v.set(x, vy << 1);
+                    self.v.set_flag(vy & 0x80 != 0);
+                }
+            },
+            0x9 => pc += skip(vx != vy),
+            0xA => self.i = address,
+            0xB => pc = address + u16::from(self.v.get(0)),
+            0xC => self.v.set(x, random & low),
+            0xD => self.v.set_flag(false),
+            0xE => {
+                let down = keys >> (vx & 15) & 1 == 1;
+                pc += skip(down == (low == 0x9E));
+            }
+            _ => match low {
+                0x07 => self.v.set(x, self.delay),
+                0x0A => {
+                    if self.held == NO_KEY {
+                        pc = self.pc;
+                        if keys != 0 {
+                            held = keys.trailing_zeros() as u8;
+                        }
+                    } else if keys >> (self.held & 15) & 1 == 1 {
+                        pc = self.pc;
+                        held = self.held;
+                    } else {
+                        self.v.set(x, self.held);
+                    }
+                }
+                0x15 => self.delay = vx,
+                0x18 => self.tone = vx,
+                0x1E => self.i = self.i.wrapping_add(u16::from(vx)),
+                0x29 => self.i = 5 * u16::from(vx & 15),
+                _ => {
+                    fetch(memory, usize::from(self.i), x, &mut self.v);
+                    self.i += x as u16 + 1;
+                }
+            },
+        }
         self.pc = pc;
         self.held = held;
         0
@@ -564,7 +585,7 @@ impl Work {
             _ => return DAMAGED_RECORD,
         }
         let v = record[2..].first_chunk().expect("290 hold 16");
-        self.v = Registers(u128::from_be_bytes(*v));
+        self.v = Registers(*v);
         self.i = number(record, 18);
         self.pc = number(record, 20);
         self.depth = depth;
@@ -622,6 +643,10 @@ fn entries_from(stack: &[u16; 16], depth: u8) -> u16 {
         };
     }
     over
+}
+
+fn old_of(place: &mut Place) -> &mut [u8; 256] {
+    place[32..].first_chunk_mut().expect("260 hold 256")
 }
 
 /// Places of 292 bytes begin at every fourth address, where a store of sixteen
@@ -723,12 +748,12 @@ fn store(memory: &mut Memory, i: usize, x: usize, v: Registers, old: &mut [u8; 2
     if let Some(bytes) = memory[i..].first_chunk_mut::<16>() {
         let before = u128::from_be_bytes(*bytes);
         let kept = before & up_to(x);
-        *bytes = (before ^ kept | v.0 & up_to(x)).to_be_bytes();
+        *bytes = (before ^ kept | u128::from_be_bytes(v.0) & up_to(x)).to_be_bytes();
         old[..16].copy_from_slice(&kept.to_be_bytes());
     } else {
         let bytes = &mut memory[i..i + x + 1];
         old[..x + 1].copy_from_slice(bytes);
-        bytes.copy_from_slice(&v.0.to_be_bytes()[..x + 1]);
+        bytes.copy_from_slice(&v.0[..x + 1]);
     }
 }
 
@@ -740,7 +765,8 @@ fn fetch(memory: &Memory, i: usize, x: usize, v: &mut Registers) {
     } else {
         bytes[..x + 1].copy_from_slice(&memory[i..i + x + 1]);
     }
-    v.0 = v.0 & !up_to(x) | u128::from_be_bytes(bytes) & up_to(x);
+    v.0 = (u128::from_be_bytes(v.0) & !up_to(x) | u128::from_be_bytes(bytes) & up_to(x))
+        .to_be_bytes();
 }
 
 /// Whether a record is damaged beside a state of that depth. A back tests the

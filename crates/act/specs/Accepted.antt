@@ -1,4 +1,4 @@
--- What the judgement leaves: an instruction that is not refused, and a number of lit spots that stays in its range, beside buffers of the
+-- What the judgement leaves of any other: an instruction that is not refused, and a number of lit spots that stays in its range, beside buffers of the
 -- right sizes.
 use mathlib.Core.Path.{_≡_}
 use mathlib.Core.List.{List}
@@ -6,7 +6,7 @@ use Prim.Native.Nat.{ℕ, _-_, _≤_}
 use lib.ListN.{length}
 use Rattle.rules.specs.declared.Machine.{Machine}
 use Rattle.rules.specs.declared.Op.{Op}
-use Rattle.rules.specs.State.{memorySize, stackSize}
+use Rattle.rules.specs.State.{memorySize}
 use Rattle.rules.specs.Rows.{bytesOf}
 use Rattle.transfers.specs.Other.{Other}
 use Rattle.rules.specs.Step.{refusalOf, litRefusal, pictureAfter}
@@ -15,7 +15,6 @@ pub record Accepted (op : Op) (m : Machine) (mem picture : List ℕ) : Type 0 wh
   pub other : Other op
   pub end : m .end ≤ memorySize
   pub near : m .pc ≤ memorySize - 2
-  pub shallow : m .depth ≤ stackSize
   pub allowed : refusalOf op m ≡ 0
   pub passes : litRefusal (m .lit) (bytesOf picture) (pictureAfter op m mem (bytesOf picture)) ≡ 0
   pub memory : length mem ≡ memorySize

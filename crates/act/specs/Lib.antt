@@ -1,3 +1,4 @@
 -- What the contracts of this crate ask for and promise.
+pub mod Able
 pub mod Accepted
 pub mod Became

@@ -76,6 +76,13 @@ pub fn draw(
     let end = row + least(pattern.len(), 32 - row);
     let middle = least(row + 8, end);
     let upper = eight(rows, place, at, pattern, column, row, row, middle);
+    // Where at most eight rows are drawn there is no lower part, and nothing in it to count.
+    if middle == end {
+        return Spots {
+            dark: upper.dark,
+            lit: upper.all - upper.dark,
+        };
+    }
     let below = at + 8 * (middle - row);
     let lower = eight(rows, place, below, pattern, column, row, middle, end);
     let dark = upper.dark + lower.dark;

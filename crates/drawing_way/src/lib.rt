@@ -11,7 +11,7 @@ use rules::Outcome;
 use rules::Trail;
 use ways::Stepped;
 
-// A drawing keeps the rows in the pass in which it turns them over.
+// A drawing keeps the rows in the pass in which it turns them over. The verdict, the record and the drawing share one column and one row.
 pub fn drawing_step(
     x: u8,
     y: u8,
@@ -31,13 +31,15 @@ pub fn drawing_step(
         (world (whole c (now (v .entry)) (now (stack .entry))) trail (now (memory .entry)) (bytesOf (now (rows .entry)))
         (now (history .entry))) r (now (v .exit)) (now (stack .entry)) (now (memory .entry)) (bytesOf (now (rows .exit))) (now (history .exit)) ⌝ }
 {
-    let outcome = verdict::drawable(c, v, x, y, n, memory, rows);
+    let column = transfers::column_of(v, x) as usize;
+    let row = transfers::row_of(v, y);
+    let outcome = verdict::drawable(c, column, row as usize, n, memory, rows);
     let Outcome::Done = outcome else {
         return ways::refused(outcome, c, trail);
     };
     let places = fitting::places(history);
     let next = trail.next;
-    let change = transfers::rows_change(n, transfers::row_of(v, y));
+    let change = transfers::rows_change(n, row);
     keeping::keep(
         history,
         next,
@@ -49,7 +51,7 @@ pub fn drawing_step(
     );
     let old = keeping::PLACE * next + keeping::AT_OLD;
     let pattern = transfers::pattern(c.i, n, memory);
-    let acted = transfers::draw(c, v, x, y, pattern, rows, history, old);
+    let acted = transfers::draw(c, v, column, row as usize, pattern, rows, history, old);
     let core = acted.core;
     Stepped {
         outcome: Outcome::Done,

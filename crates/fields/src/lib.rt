@@ -100,6 +100,14 @@ pub fn last_fields(c: Core, last: u16, change: Change) -> u64
         + count
 }
 
+// Of those the two between the delay timer and the start, for a record whose start and count are zeros.
+pub fn tone_and_held(c: Core) -> [u8; 2]
+    ensures { λ r. ⌜ r ≡ c .timers .tone ∷ heldByte (c .wait) ∷ [] ⌝ }
+{
+    let wait = c.wait;
+    [c.timers.tone, parts::held_byte(wait)]
+}
+
 // What stands last: the inputs of a step and a 1, or four zeros for a tick.
 pub fn inputs_of(action: Action) -> [u8; 4]
     ensures { λ r. ⌜ r ≡ inputs action ⌝ }

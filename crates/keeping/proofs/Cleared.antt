@@ -1,45 +1,34 @@
 -- Zeros laid over zeros that reach so far, and on from there.
-use mathlib.Core.Path.{_≡_, sym, ap, ap₂, _∙_}
-use mathlib.Core.List.{List, _++_, append-assoc}
+use mathlib.Core.Path.{_≡_, sym, ap, _∙_}
+use mathlib.Core.List.{List, _++_}
 use Prim.Native.Nat.{ℕ, _+_, _-_, _≤_}
 use native.Mathlib.Omega.{arith}
-use lib.ListN.{length, take, drop, replicate, length-take, length-append, length-replicate, replicate-append-replicate}
-use lib.Seq.{take-at, drop-append-add, drop-drop}
+use lib.ListN.{length, take, replicate, length-replicate, replicate-append-replicate}
+use lib.Seq.{take-at}
 use Rattle.rules.specs.Memory.{over}
+use Rattle.keeping.proofs.Overlap.{overlapped}
 
--- k zeros from the 32nd byte on
-abbrev pub zeroed : List ℕ → ℕ → List ℕ
-zeroed p k = over p 32 (replicate k 0) k
+-- k zeros from a byte on
+abbrev pub zeroed : List ℕ → ℕ → ℕ → List ℕ
+zeroed p from k = over p from (replicate k 0) k
 
-regroup : (b x y t : List ℕ) → b ++ (x ++ y) ++ t ≡ b ++ x ++ (y ++ t)
-regroup b x y t = simp append-assoc
+-- d of k zeros, and n behind them
+joined : (k d n : ℕ) → d ≤ k → take d (replicate {A = ℕ} k 0) ++ replicate n 0 ≡ replicate (d + n) 0
+joined k d n near =
+    let e : k ≡ d + (k - d) = omega arith in
+    let cut : take d (replicate {A = ℕ} k 0) ≡ replicate d 0 =
+    ap (λ (j : ℕ). take d (replicate {A = ℕ} j 0)) e
+    ∙ ap (take d) (sym (replicate-append-replicate {A = ℕ} d (k - d) 0))
+    ∙ take-at (replicate d 0) (replicate (k - d) 0) d (length-replicate d 0) in
+    ap (λ (l : List ℕ). l ++ replicate n 0) cut ∙ replicate-append-replicate {A = ℕ} d n 0
 
-module _ (p : List ℕ) (k a n : ℕ) (near : a ≤ k) (far : k ≤ a + n) (room : 32 + a + n ≤ length p) where
-  abbrev b : List ℕ
-  b = take 32 p
-
-  abbrev t : List ℕ
-  t = drop (32 + k) p
-
-  front : take (32 + a) (zeroed p k) ≡ b ++ replicate a 0
-  front =
-      let e : k ≡ a + (k - a) = omega arith in
-      let zeros : replicate {A = ℕ} k 0 ≡ replicate a 0 ++ replicate (k - a) 0 =
-      ap (λ (j : ℕ). replicate {A = ℕ} j 0) e ∙ sym (replicate-append-replicate {A = ℕ} a (k - a) 0) in
-      ap (λ (z : List ℕ). take (32 + a) (b ++ z ++ t)) zeros
-      ∙ ap (take (32 + a)) (regroup b (replicate a 0) (replicate (k - a) 0) t)
-      ∙ take-at (b ++ replicate a 0) (replicate (k - a) 0 ++ t) (32 + a) (simp (length-append, length-replicate, length-take) (omega arith))
-
-  back : drop (32 + a + n) (zeroed p k) ≡ drop (32 + (a + n)) p
-  back =
-      let d = a + n - k in
-      let sized : length (b ++ replicate k 0) ≡ 32 + k = simp (length-append, length-replicate, length-take) (omega arith) in
-      let e : 32 + a + n ≡ length (b ++ replicate k 0) + d = omega (arith, sized) in
-      let f : 32 + k + d ≡ 32 + (a + n) = omega arith in
-      ap (λ (j : ℕ). drop j (zeroed p k)) e ∙ drop-append-add (b ++ replicate k 0) t d ∙ drop-drop d (32 + k) p ∙ ap (λ (j : ℕ). drop j p) f
-
-  pub more-zeros : over (zeroed p k) (32 + a) (replicate n 0) n ≡ zeroed p (a + n)
-  more-zeros =
-      ap₂ (λ (x y : List ℕ). x ++ replicate n 0 ++ y) front back
-      ∙ ap (λ (z : List ℕ). z ++ drop (32 + (a + n)) p)
-      (append-assoc b (replicate a 0) (replicate n 0) ∙ ap (λ (z : List ℕ). b ++ z) (replicate-append-replicate {A = ℕ} a n 0))
+pub more-zeros : (p : List ℕ) (from k at n : ℕ) → from ≤ at → at ≤ from + k → from + k ≤ at + n → at + n ≤ length p
+    → over (zeroed p from k) at (replicate n 0) n ≡ zeroed p from (at + n - from)
+more-zeros p from k at n behind near far room =
+    let d = at - from in
+    let here : at ≡ from + d = omega arith in
+    let many : d + n ≡ at + n - from = omega arith in
+    ap (λ (j : ℕ). over (zeroed p from k) j (replicate n 0) n) here
+    ∙ overlapped p (replicate k 0) (replicate n 0) from k d n (omega arith) (length-replicate k 0) (omega arith) (omega arith)
+    ∙ ap (λ (l : List ℕ). over p from l (d + n)) (joined k d n (omega arith))
+    ∙ ap (zeroed p from) many

@@ -47,29 +47,39 @@ between p b m v r e hb hm =
 four-pieces : (b f z i : List ℕ) → b ++ f ++ z ++ i ≡ b ++ (f ++ z ++ i)
 four-pieces b f z i = simp append-assoc
 
--- a record without its old bytes: all of it is laid into a place
-pub blank-laid : (p m f v i : List ℕ) {p₁ p₂ p₃ p₄ p₅ y x : List ℕ}
+-- all of a record is laid into a place: zeros follow the first k bytes of what stands between the variables and the inputs
+pub all-laid : (p m f v i : List ℕ) (k : ℕ) {p₁ p₂ p₃ p₄ p₅ y x : List ℕ} → k ≤ 270
     → p₁ ≡ over p 0 y (length y) → y ≡ m → length m ≡ 2 → length p₁ ≡ 292
-    → p₂ ≡ over p₁ 18 f 14 → length f ≡ 14 → length p₂ ≡ 292
-    → p₃ ≡ over p₂ 32 (replicate 256 0) 256
+    → p₂ ≡ over p₁ 18 f k → length f ≡ k → length p₂ ≡ 292
+    → p₃ ≡ over p₂ (18 + k) (replicate (270 - k) 0) (270 - k)
     → p₄ ≡ over p₃ 288 x (length x) → x ≡ i → length i ≡ 4
     → p₅ ≡ over p₄ 2 v 16
-    → p₅ ≡ m ++ v ++ f ++ replicate 256 0 ++ i
-blank-laid p m f v i {p₁} {p₂} {p₃} {p₄} {p₅} {y} {x} e₁ hm two s₁ e₂ fourteen s₂ e₃ e₄ hi four e₅ =
+    → p₅ ≡ m ++ v ++ f ++ replicate (270 - k) 0 ++ i
+all-laid p m f v i k {p₁} {p₂} {p₃} {p₄} {p₅} {y} {x} few e₁ hm two s₁ e₂ counted s₂ e₃ e₄ hi four e₅ =
     let b : List ℕ = take 18 p₁ in
-    let o : List ℕ = replicate 256 0 in
+    let o : List ℕ = replicate (270 - k) 0 in
     let t : List ℕ = drop 288 p₂ in
     let marked : take 2 p₁ ≡ m = behind p p₁ y m [] 0 2 e₁ (omega arith) hm two refl in
-    let laid : p₂ ≡ over p₁ 18 f (length f) = rw fourteen e₂ in
-    let front : take 32 p₂ ≡ b ++ f = behind p₁ p₂ f f b 18 14 laid (omega arith) refl fourteen refl in
+    let laid : p₂ ≡ over p₁ 18 f (length f) = rw counted e₂ in
+    let front : take (18 + k) p₂ ≡ b ++ f = behind p₁ p₂ f f b 18 k laid (omega arith) refl counted refl in
     let sized : length b ≡ 18 = simp length-take (omega arith) in
-    let cleared : p₃ ≡ b ++ f ++ o ++ t = rw (e₃, front) in
+    let end : 18 + k + (270 - k) ≡ 288 = omega arith in
+    let cleared : p₃ ≡ b ++ f ++ o ++ t = rw (e₃, front, end) in
     let full : length (b ++ f ++ o) ≡ 288 = simp (length-append, length-replicate) (omega arith) in
     let left : length t ≡ length x = simp length-drop (omega (arith, ap length hi)) in
     let whole : p₄ ≡ b ++ f ++ o ++ i = rw hi at (e₄ ∙ over-last p₃ (b ++ f ++ o) t x 288 cleared full left) in
     e₅
     ∙ between p₄ b m v (f ++ o ++ i) (whole ∙ four-pieces b f o i) sized (take-take 2 18 p₁ (omega arith) ∙ marked)
     ∙ sym (four-pieces (m ++ v) f o i)
+
+-- where nothing changes but the state, the last four of the fields are zeros like the old bytes
+pub state-blank : (m : Machine) (a : Action)
+    → mark Nothing ++ m .v ++ take 10 (fields m Nothing) ++ replicate 260 0 ++ inputs a ≡ blank m Nothing a
+unfolding blank
+state-blank m a =
+    let b = mark Nothing ++ m .v in
+    ap (λ (l : List ℕ). l ++ inputs a)
+    (append-assoc b (take 10 (fields m Nothing)) (replicate 260 0) ∙ sym (append-assoc b (fields m Nothing) (replicate 256 0)))
 
 -- ---- THE RECORD, in the history
 

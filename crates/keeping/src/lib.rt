@@ -1,12 +1,13 @@
 // A history's records, written. The specs of `rules`, Record.antt, say what a record is.
 ghost use mathlib.Core.Path.{_≡_};
 ghost use mathlib.Core.List.{List};
-ghost use Prim.Native.Nat.{ℕ, _+_, _*_, _≤_};
-ghost use lib.ListN.{length, replicate};
+ghost use Prim.Native.Nat.{ℕ, _+_, _-_, _*_, _≤_};
+ghost use lib.ListN.{length, take, replicate};
 ghost use Rattle.keeping.specs.Writable.{blank, Reaches};
 ghost use Rattle.rules.specs.Memory.{over};
 ghost use Rattle.rules.specs.State.{stackSize};
-ghost use Rattle.rules.specs.Record.{placeSize, atV, atI, atOld, count, old, fields};
+ghost use Rattle.rules.specs.declared.Change.the-variants.{Nothing};
+ghost use Rattle.rules.specs.Record.{placeSize, atV, atI, atStart, atOld, atKeys, count, old, fields};
 ghost use Rattle.rules.specs.Rows.{bytesOf};
 ghost use Rattle.parts.specs.Whole.{whole};
 use parts::Core;
@@ -57,6 +58,18 @@ fn lay_fields(place: &mut [u8], c: Core, stack: &[u16; Machine::STACK], change: 
     memory::lay_eight(place, AT_OLD - 8, fields::last_fields(c, last, change));
 }
 
+// The same where nothing changes but the state: all but the start and the count, which are zeros.
+fn lay_state(place: &mut [u8], c: Core, stack: &[u16; Machine::STACK])
+    requires { ⌜ (length (now place) ≡ placeSize) × (c .depth ≤ stackSize) ⌝ }
+    ensures { λ _. ⌜ ((v : List ℕ) → now (place .exit) ≡ over (now (place .entry)) atI
+        (take (atStart - atI) (fields (whole c v (now (stack .entry))) Nothing)) (atStart - atI)) ⌝ }
+{
+    let last = fields::last_return(c.depth, stack);
+    let bytes = fields::tone_and_held(c);
+    memory::lay_eight(place, AT_I, fields::first_fields(c, last));
+    memory::lay(place, AT_TONE, &bytes);
+}
+
 // The variables. They come by value, so that they can't lie where the record is written, and sixteen bytes are copied at once.
 fn lay_variables(place: &mut [u8], v: [u8; 16])
     requires { ⌜ length (now place) ≡ placeSize ⌝ }
@@ -73,13 +86,14 @@ fn zeros(place: &mut [u8], from: usize, count: usize)
     memory::clear(&mut place[from..from + count], 0);
 }
 
-// Zeros between the fields and the inputs. The compiler lays sixteen at a time, and a quarter of them would reach over a line of the cache,
-// since no sixteen bytes of most places begin at a multiple of sixteen. So the middle ones begin `skew` bytes on, where they do.
-fn clear_old(place: &mut [u8], skew: usize)
-    requires { ⌜ (length (now place) ≡ placeSize) × (skew ≤ 16) ⌝ }
-    ensures { λ _. ⌜ now (place .exit) ≡ over (now (place .entry)) atOld (replicate 256 0) 256 ⌝ }
+// Zeros up to the inputs, from the old bytes on or from the start on. The compiler lays sixteen at a time, and a quarter of them would reach
+// over a line of the cache, since no sixteen bytes of most places begin at a multiple of sixteen. So the middle ones begin `skew` bytes behind
+// the old bytes' first, where they do. A skew is at most twelve, so the first sixteen reach that far even if they begin four bytes earlier.
+fn clear_from(place: &mut [u8], from: usize, skew: usize)
+    requires { ⌜ (length (now place) ≡ placeSize) × (atStart ≤ from) × (from ≤ atOld) × (skew ≤ 12) ⌝ }
+    ensures { λ _. ⌜ now (place .exit) ≡ over (now (place .entry)) from (replicate (atKeys - from) 0) (atKeys - from) ⌝ }
 {
-    zeros(place, AT_OLD, 16);
+    zeros(place, from, 16);
     zeros(place, AT_OLD + skew, 240);
     zeros(place, AT_OLD + 240, 16);
 }
@@ -95,14 +109,35 @@ fn write(
     change: Change,
     action: Action,
 )
-    requires { ⌜ (length (now place) ≡ placeSize) × (skew ≤ 16) × (c .depth ≤ stackSize) ⌝ }
+    requires { ⌜ (length (now place) ≡ placeSize) × (skew ≤ 12) × (c .depth ≤ stackSize) ⌝ }
     ensures { λ _. ⌜ now (place .exit) ≡ blank (whole c (now (v .entry)) (now (stack .entry))) change action ⌝ }
 {
     let mark = fields::mark_of(change);
     let inputs = fields::inputs_of(action);
     memory::lay(place, AT_MARK, &mark);
     lay_fields(place, c, stack, change);
-    clear_old(place, skew);
+    clear_from(place, AT_OLD, skew);
+    memory::lay(place, AT_KEYS, &inputs);
+    lay_variables(place, *v);
+}
+
+// The same for a record of no change, whose start and count are cleared with the old bytes.
+fn write_state(
+    place: &mut [u8],
+    skew: usize,
+    c: Core,
+    v: &[u8; 16],
+    stack: &[u16; Machine::STACK],
+    action: Action,
+)
+    requires { ⌜ (length (now place) ≡ placeSize) × (skew ≤ 12) × (c .depth ≤ stackSize) ⌝ }
+    ensures { λ _. ⌜ now (place .exit) ≡ blank (whole c (now (v .entry)) (now (stack .entry))) Nothing action ⌝ }
+{
+    let mark = fields::mark_of(Change::Nothing);
+    let inputs = fields::inputs_of(action);
+    memory::lay(place, AT_MARK, &mark);
+    lay_state(place, c, stack);
+    clear_from(place, AT_START, skew);
     memory::lay(place, AT_KEYS, &inputs);
     lay_variables(place, *v);
 }
@@ -153,4 +188,23 @@ pub fn keep_old(history: &mut [u8], next: usize, change: Change, memory: &[u8], 
             picture::lay_rows(history, at, rows, start as usize / 8, count as usize / 8);
         }
     }
+}
+
+// Writes the record of an action that changes the state alone.
+pub fn keep_state(
+    history: &mut [u8],
+    next: usize,
+    c: Core,
+    v: &[u8; 16],
+    stack: &[u16; Machine::STACK],
+    action: Action,
+)
+    requires { ⌜ (placeSize * next + placeSize ≤ length (now history)) × (c .depth ≤ stackSize) ⌝ }
+    ensures { λ _. ⌜ now (history .exit) ≡ over (now (history .entry)) (placeSize * next)
+        (blank (whole c (now (v .entry)) (now (stack .entry))) Nothing action) placeSize ⌝ }
+{
+    let at = PLACE * next;
+    // The skew depends on the place alone, as in `keep`.
+    let skew = 12 * next % 16;
+    write_state(&mut history[at..at + PLACE], skew, c, v, stack, action);
 }

@@ -1,4 +1,4 @@
-// A step of a world that passed the tests 9 and 10: by its instruction it takes one of three ways, which have one promise.
+// A step of a world that passed the tests 9 and 10: by its instruction it takes one of four ways, which have one promise.
 ghost use Rattle.rules.specs.World.{world};
 ghost use Rattle.rules.specs.Rows.{bytesOf};
 ghost use Rattle.rules.proofs.Ready.{Ready};
@@ -48,6 +48,9 @@ pub fn step(
             keys,
             random,
         );
+    }
+    if transfers::is_quiet(op) {
+        return ways::quiet_step(op, c, v, stack, trail, memory, rows, history, keys, random);
     }
     if let Op::Draw(x, y, n) = op {
         return drawing_way::drawing_step(

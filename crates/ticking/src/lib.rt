@@ -9,7 +9,6 @@ ghost use Rattle.parts.specs.Whole.{whole};
 ghost use Rattle.ticking.specs.Tickable.{Tickable};
 use parts::Core;
 use rules::Action;
-use rules::Change;
 use rules::Machine;
 use rules::Outcome;
 use rules::Trail;
@@ -39,7 +38,7 @@ pub fn tick(
 {
     let places = fitting::places(history);
     let at = trail.next;
-    keeping::keep(history, at, c, v, stack, Change::Nothing, Action::Tick);
+    keeping::keep_state(history, at, c, v, stack, Action::Tick);
     Moved {
         outcome: Outcome::Done,
         core: clock::tick(c),

@@ -14,6 +14,7 @@ ghost use Rattle.rules.specs.Step.{rowsChange, rowBytes, litAfter, litRefusal, 
 ghost use Rattle.rules.specs.Rows.{bytesOf};
 ghost use Rattle.parts.specs.Whole.{whole};
 ghost use Rattle.transfers.specs.Within.{Within};
+ghost use Rattle.transfers.specs.Quiet.{quiet};
 use parts::Core;
 use picture::Spots;
 use rules::Change;
@@ -27,6 +28,13 @@ pub struct Acted {
 }
 
 // ---- where the change lies
+
+// The column that a drawing starts in.
+pub fn column_of(v: &[u8; 16], x: u8) -> u8
+    ensures { λ r. ⌜ (r ≡ getD (now (v .entry)) (x % 16) 0 % 64) × (r < 64) ⌝ }
+{
+    registers::get(v, x) % 64
+}
 
 // The row that a drawing starts in.
 pub fn row_of(v: &[u8; 16], y: u8) -> u8
@@ -69,6 +77,25 @@ pub fn change_of(op: Op, c: Core, v: &[u8; 16]) -> Change
     }
 }
 
+// Whether it is quiet: memory and the picture stay, so its record keeps no old bytes.
+pub fn is_quiet(op: Op) -> bool
+    ensures { λ r. ⌜ r ≡ quiet op ⌝ }
+{
+    match op {
+        Op::Plain(_) => false,
+        Op::AwaitKey(_) => true,
+        Op::Call(_) => true,
+        Op::Return => true,
+        Op::Clear => false,
+        Op::Draw(_, _, n) => n == 0,
+        Op::Decimal(_) => false,
+        Op::Store(_) => false,
+        Op::Fetch(_) => true,
+        Op::Unlisted => false,
+        Op::MachineCode => false,
+    }
+}
+
 // ---- the instructions that read or change memory or the picture
 
 // DXYN: the part of memory that holds the pattern. DXY0 has none, whatever I is.
@@ -101,39 +128,30 @@ pub fn clear(c: Core, rows: &mut [u64]) -> Core
 pub fn draw(
     c: Core,
     v: &mut [u8; 16],
-    x: u8,
-    y: u8,
+    column: usize,
+    row: usize,
     pattern: &[u8],
     rows: &mut [u64],
     place: &mut [u8],
     at: usize,
 ) -> Acted
-    requires { ⌜ (c .pc ≤ 4094) × (length (now rows) ≡ 32) × (length (now pattern) ≤ 16) × (litRefusal (c .lit) (bytesOf (now rows))
-        (drawn (now pattern) (getD (now v) (x % 16) 0 % 64) (getD (now v) (y % 16) 0 % 32) (bytesOf (now rows))) ≡ 0)
+    requires { ⌜ (c .pc ≤ 4094) × (column < 64) × (row < 32) × (length (now rows) ≡ 32) × (length (now pattern) ≤ 16)
+        × (litRefusal (c .lit) (bytesOf (now rows)) (drawn (now pattern) column row (bytesOf (now rows))) ≡ 0)
         × (at + 128 ≤ length (now place)) ⌝ }
-    ensures { λ r. ⌜ bytesOf (now (rows .exit)) ≡ drawn (now (pattern .entry)) (getD (now (v .entry)) (x % 16) 0 % 64)
-        (getD (now (v .entry)) (y % 16) 0 % 32) (bytesOf (now (rows .entry))) ⌝ }
+    ensures { λ r. ⌜ bytesOf (now (rows .exit)) ≡ drawn (now (pattern .entry)) column row (bytesOf (now (rows .entry))) ⌝ }
     ensures { λ r. ⌜
         ((stack : List ℕ) → whole (r .core) (now (v .exit)) stack ≡ withLit
-        (litAfter (c .lit) (bytesOf (now (rows .entry)))
-        (drawn (now (pattern .entry)) (getD (now (v .entry)) (x % 16) 0 % 64) (getD (now (v .entry)) (y % 16) 0 % 32)
-        (bytesOf (now (rows .entry)))))
+        (litAfter (c .lit) (bytesOf (now (rows .entry))) (drawn (now (pattern .entry)) column row (bytesOf (now (rows .entry)))))
         (withWait Idle
         (onward
         (withReg 0xF
-        (pick
-        (ltb 0
-        (darkened (now (pattern .entry)) (getD (now (v .entry)) (x % 16) 0 % 64) (getD (now (v .entry)) (y % 16) 0 % 32)
-        (bytesOf (now (rows .entry))))) 1 0) (whole c (now (v .entry)) stack))))) ⌝ }
-    ensures { λ r. ⌜ (r .dark ≡ darkened (now (pattern .entry)) (getD (now (v .entry)) (x % 16) 0 % 64)
-        (getD (now (v .entry)) (y % 16) 0 % 32) (bytesOf (now (rows .entry)))) × (r .dark ≤ 8 * length (now (pattern .entry))) ⌝ }
+        (pick (ltb 0 (darkened (now (pattern .entry)) column row (bytesOf (now (rows .entry))))) 1 0)
+        (whole c (now (v .entry)) stack))))) ⌝ }
+    ensures { λ r. ⌜ (r .dark ≡ darkened (now (pattern .entry)) column row (bytesOf (now (rows .entry))))
+        × (r .dark ≤ 8 * length (now (pattern .entry))) ⌝ }
     ensures { λ r. ⌜ now (place .exit) ≡ over (now (place .entry)) at
-        (part (bytesOf (now (rows .entry))) (8 * (getD (now (v .entry)) (y % 16) 0 % 32))
-        (rowBytes (length (now (pattern .entry))) (getD (now (v .entry)) (y % 16) 0 % 32)))
-        (rowBytes (length (now (pattern .entry))) (getD (now (v .entry)) (y % 16) 0 % 32)) ⌝ }
+        (part (bytesOf (now (rows .entry))) (8 * row) (rowBytes (length (now (pattern .entry))) row)) (rowBytes (length (now (pattern .entry))) row) ⌝ }
 {
-    let column = (registers::get(v, x) % 64) as usize;
-    let row = row_of(v, y) as usize;
     let spots = drawing::draw(rows, place, at, pattern, column, row);
     let lit = lit::counted(c.lit, spots);
     let dark = spots.dark;

@@ -1,16 +1,19 @@
 // What an instruction needs: the last refusals that there can be, before anything is written.
 ghost use mathlib.Core.Path.{_≡_};
+ghost use mathlib.Core.Bool.{true};
 ghost use mathlib.Core.List.{List};
-ghost use Prim.Native.Nat.{ℕ, _%_, _≤_};
-ghost use lib.ListN.{length, getD, replicate};
+ghost use Prim.Native.Nat.{ℕ, _≤_, _<_};
+ghost use lib.ListN.{length, replicate};
 ghost use Rattle.rules.specs.Number.{orLater};
 ghost use Rattle.rules.specs.Refusal.{number};
 ghost use Rattle.rules.specs.State.{memorySize, pictureSize, spotCount};
+ghost use Rattle.rules.specs.Memory.{part};
 ghost use Rattle.rules.specs.Picture.{drawn};
 ghost use Rattle.rules.specs.Rows.{bytesOf};
 ghost use Rattle.rules.specs.Step as rule;
-ghost use Rattle.rules.specs.declared.Op.the-variants.{Draw};
+ghost use Rattle.rules.proofs.Good.{Bytes};
 ghost use Rattle.parts.specs.Whole.{whole};
+ghost use Rattle.transfers.specs.Quiet.{quiet};
 ghost use Rattle.transfers.specs.Other.{Other};
 use parts::Core;
 use picture::Spots;
@@ -35,10 +38,10 @@ fn past(c: Core, n: usize) -> Outcome
 
 // Whether the number of lit spots stays in its range in a drawing. One that is further from both ends than the pattern has bits needs no
 // look; else what the drawing would turn over is counted, and nothing is written.
-fn late_drawing(lit: u16, v: &[u8; 16], x: u8, y: u8, pattern: &[u8], rows: &[u64]) -> Outcome
-    requires { ⌜ (lit ≤ spotCount) × (length (now rows) ≡ 32) × (length (now pattern) ≤ 16) ⌝ }
+fn late_drawing(lit: u16, column: usize, row: usize, pattern: &[u8], rows: &[u64]) -> Outcome
+    requires { ⌜ (lit ≤ spotCount) × (column < 64) × (row < 32) × (length (now rows) ≡ 32) × (length (now pattern) ≤ 16) ⌝ }
     ensures { λ r. ⌜ number r ≡ rule.litRefusal lit (bytesOf (now (rows .entry)))
-        (drawn (now (pattern .entry)) (getD (now (v .entry)) (x % 16) 0 % 64) (getD (now (v .entry)) (y % 16) 0 % 32) (bytesOf (now (rows .entry)))) ⌝ }
+        (drawn (now (pattern .entry)) column row (bytesOf (now (rows .entry)))) ⌝ }
 {
     let most = 8 * pattern.len();
     let number = lit as usize;
@@ -47,8 +50,6 @@ fn late_drawing(lit: u16, v: &[u8; 16], x: u8, y: u8, pattern: &[u8], rows: &[u6
             return Outcome::Done;
         }
     }
-    let column = (registers::get(v, x) % 64) as usize;
-    let row = transfers::row_of(v, y) as usize;
     lit::late(lit, drawing::would_turn(rows, pattern, column, row))
 }
 
@@ -62,26 +63,26 @@ fn late_clearing(lit: u16, rows: &[u64]) -> Outcome
 }
 
 // DXYN: 6, then the late 10.
-pub fn drawable(c: Core, v: &[u8; 16], x: u8, y: u8, n: u8, memory: &[u8], rows: &[u64]) -> Outcome
-    requires { ⌜ (c .lit ≤ spotCount) × (c .end ≤ memorySize) × (length (now memory) ≡ memorySize) × (length (now rows) ≡ 32) × (n ≤ 15) ⌝ }
-    ensures { λ r. ⌜ ((stack : List ℕ) → number r ≡ orLater (rule.past (whole c (now (v .entry)) stack) n)
+pub fn drawable(c: Core, column: usize, row: usize, n: u8, memory: &[u8], rows: &[u64]) -> Outcome
+    requires { ⌜ (c .lit ≤ spotCount) × (c .end ≤ memorySize) × (column < 64) × (row < 32) × (length (now memory) ≡ memorySize)
+        × (length (now rows) ≡ 32) × (n ≤ 15) ⌝ }
+    ensures { λ r. ⌜ ((v stack : List ℕ) → number r ≡ orLater (rule.past (whole c v stack) n)
         (rule.litRefusal (c .lit) (bytesOf (now (rows .entry)))
-        (rule.pictureAfter (Draw x y n) (whole c (now (v .entry)) stack) (now (memory .entry)) (bytesOf (now (rows .entry)))))) ⌝ }
+        (drawn (part (now (memory .entry)) (c .i) n) column row (bytesOf (now (rows .entry)))))) ⌝ }
 {
     let outcome = past(c, n as usize);
     let Outcome::Done = outcome else {
         return outcome;
     };
-    late_drawing(c.lit, v, x, y, transfers::pattern(c.i, n, memory), rows)
+    late_drawing(c.lit, column, row, transfers::pattern(c.i, n, memory), rows)
 }
 
-// What every other instruction needs, but for those that act on the state alone, which need nothing: 2 or 3, then 4, 5 or 6, and after
-// them the late 10, of a number of lit spots that would leave its range.
-pub fn judged(op: Op, c: Core, rows: &[u64]) -> Outcome
-    requires { ⌜ Other op × (c .lit ≤ spotCount) × (length (now rows) ≡ 32) ⌝ }
-    ensures { λ r. ⌜ ((v stack memory : List ℕ) → number r ≡ orLater (rule.refusalOf op (whole c v stack))
-        (rule.litRefusal (c .lit) (bytesOf (now (rows .entry)))
-        (rule.pictureAfter op (whole c v stack) memory (bytesOf (now (rows .entry)))))) ⌝ }
+// What a quiet instruction needs: 4, 5 or 6. It leaves the picture, so no late 10 can come.
+pub fn judged_quiet(op: Op, c: Core) -> Outcome
+    requires { ⌜ (quiet op ≡ true) × (c .lit ≤ spotCount) ⌝ }
+    ensures { λ r. ⌜
+        ((v stack memory picture : List ℕ) → Bytes pictureSize picture → number r ≡ orLater (rule.refusalOf op (whole c v stack))
+        (rule.litRefusal (c .lit) picture (rule.pictureAfter op (whole c v stack) memory picture))) ⌝ }
 {
     match op {
         Op::Plain(_) => Outcome::Done,
@@ -98,11 +99,34 @@ pub fn judged(op: Op, c: Core, rows: &[u64]) -> Outcome
             }
             Outcome::Refused(Refusal::StackEmpty)
         }
+        Op::Clear => Outcome::Done,
+        Op::Draw(_, _, _) => Outcome::Done,
+        Op::Decimal(_) => Outcome::Done,
+        Op::Store(_) => Outcome::Done,
+        Op::Fetch(x) => past(c, registers::up_to(x)),
+        Op::Unlisted => Outcome::Done,
+        Op::MachineCode => Outcome::Done,
+    }
+}
+
+// What any other instruction needs that is no drawing: 2 or 3, or 6, and after it the late 10, of a number of lit spots that would leave
+// its range.
+pub fn judged(op: Op, c: Core, rows: &[u64]) -> Outcome
+    requires { ⌜ Other op × (c .lit ≤ spotCount) × (length (now rows) ≡ 32) ⌝ }
+    ensures { λ r. ⌜ ((v stack memory : List ℕ) → number r ≡ orLater (rule.refusalOf op (whole c v stack))
+        (rule.litRefusal (c .lit) (bytesOf (now (rows .entry)))
+        (rule.pictureAfter op (whole c v stack) memory (bytesOf (now (rows .entry)))))) ⌝ }
+{
+    match op {
+        Op::Plain(_) => Outcome::Done,
+        Op::AwaitKey(_) => Outcome::Done,
+        Op::Call(_) => Outcome::Done,
+        Op::Return => Outcome::Done,
         Op::Clear => late_clearing(c.lit, rows),
         Op::Draw(_, _, _) => Outcome::Done,
         Op::Decimal(_) => past(c, 3),
         Op::Store(x) => past(c, registers::up_to(x)),
-        Op::Fetch(x) => past(c, registers::up_to(x)),
+        Op::Fetch(_) => Outcome::Done,
         Op::Unlisted => Outcome::Refused(Refusal::Unlisted),
         Op::MachineCode => Outcome::Refused(Refusal::MachineCode),
     }

@@ -1,5 +1,6 @@
 -- A step of a world that passed the tests 9 and 10: what it gives where it is refused, what its parts ask, and what they make together.
 use mathlib.Core.Path.{_≡_, refl, sym, ap, _∙_}
+use mathlib.Core.Bool.{true}
 use mathlib.Core.List.{List}
 use Prim.Native.Nat.{ℕ, _+_, _-_, _*_, _≤_, _<_}
 use native.Mathlib.Omega.{arith}
@@ -36,7 +37,8 @@ use Rattle.rules.proofs.Copied.{table-counts, table-few}
 use Rattle.rules.proofs.Given.{Back, given-refused, answered-done, refused-some}
 use Rattle.trail.specs.InRange.{InRange}
 use Rattle.transfers.specs.Other.{Other}
-use Rattle.act.specs.Accepted.{Accepted}
+use Rattle.transfers.specs.Quiet.{quiet}
+use Rattle.act.specs.Able.{Able}
 use Rattle.act.specs.Became.{acted, Became}
 use Rattle.keeping.specs.Writable.{blank, Reaches}
 use Rattle.keeping.proofs.Laid.{kept}
@@ -122,17 +124,15 @@ module _ (w : World) (h : Ready w) where
     step-kept rows h₁ h₂ a sized =
         kept (w .history) h₁ h₂ (w .memory) rows (w .trail .next) m (changeOf op m) a (h .good .machine .v .size) place-inside (step-reaches rows sized)
 
-    pub accepted : Other op → (rows : List ℕ) → w .picture ≡ bytesOf rows → length rows ≡ 32 → Accepted op m (w .memory) rows
-    accepted other rows is sized =
+    pub able : quiet op ≡ true → Able op m (w .memory)
+    able q =
         record {
-          other = other;
+          quiet-op = q;
           end = h .good .machine .end .most;
           near = omega (arith, near, h .good .machine .end .most);
           shallow = h .good .machine .calls .most;
           allowed = both-zero (refusalOf op m) _ allowed .0;
-          passes = rw is at (both-zero (refusalOf op m) _ allowed .1);
           memory = h .good .memory .size;
-          rows = sized;
         }
 
     pub step-dark : stepDark w ≡ darkOf op m (w .memory) (w .picture)
@@ -204,14 +204,14 @@ plain-passes w h s = same-passes (w .machine .lit) (w .picture) (h .good .machin
 -- only a drawing darkens spots
 pub other-dark : (op : Op) (m : Machine) (mem pic : List ℕ) → Other op → darkOf op m mem pic ≡ 0
 unfolding darkOf
-other-dark (AwaitKey x) m mem pic o = refl
-other-dark (Call a) m mem pic o = refl
-other-dark Return m mem pic o = refl
 other-dark Clear m mem pic o = refl
 other-dark (Decimal x) m mem pic o = refl
 other-dark (Store x) m mem pic o = refl
-other-dark (Fetch x) m mem pic o = refl
 other-dark Unlisted m mem pic o = refl
 other-dark MachineCode m mem pic o = refl
 other-dark (Plain s) m mem pic o = absurd o
+other-dark (AwaitKey x) m mem pic o = absurd o
+other-dark (Call a) m mem pic o = absurd o
+other-dark Return m mem pic o = absurd o
 other-dark (Draw x y n) m mem pic o = absurd o
+other-dark (Fetch x) m mem pic o = absurd o

@@ -1,15 +1,16 @@
-// What a step of a tested world promises, and two of its three ways: of an instruction on the state alone, and of any other that is no
-// drawing. Each is judged if it can be refused, then its record is kept, then it acts.
+// What a step of a tested world promises, and three of its four ways: of an instruction on the state alone, of a quiet one, and of any other
+// that is no drawing. Each is judged if it can be refused, then its record is kept, then it acts.
 ghost use mathlib.Core.Path.{_≡_};
+ghost use mathlib.Core.Bool.{true};
 ghost use Rattle.rules.specs.World.{world};
 ghost use Rattle.rules.specs.Rows.{bytesOf};
 ghost use Rattle.parts.specs.Whole.{whole};
 ghost use Rattle.rules.specs.declared.Op.the-variants.{Plain};
+ghost use Rattle.transfers.specs.Quiet.{quiet};
 ghost use Rattle.transfers.specs.Other.{Other};
 ghost use Rattle.ways.specs.Steps.{Reached, Made};
 use parts::Core;
 use rules::Action;
-use rules::Change;
 use rules::Machine;
 use rules::Op;
 use rules::Outcome;
@@ -59,15 +60,7 @@ pub fn plain_step(
 {
     let places = fitting::places(history);
     let next = trail.next;
-    keeping::keep(
-        history,
-        next,
-        c,
-        v,
-        stack,
-        Change::Nothing,
-        Action::Step(keys, random),
-    );
+    keeping::keep_state(history, next, c, v, stack, Action::Step(keys, random));
     let core = registers::idle(instructions::simple(simple, c, v, keys, random));
     Stepped {
         outcome: Outcome::Done,
@@ -78,12 +71,47 @@ pub fn plain_step(
     }
 }
 
-// Every other instruction is judged, its record is kept, and it acts.
-pub fn other_step(
+// A quiet instruction is judged, and its record keeps no old bytes either.
+pub fn quiet_step(
     op: Op,
     c: Core,
     v: &mut [u8; 16],
     stack: &mut [u16; Machine::STACK],
+    trail: Trail,
+    memory: &[u8],
+    rows: &[u64],
+    history: &mut [u8],
+    keys: u16,
+    random: u8,
+) -> Stepped
+    requires { ⌜ (quiet op ≡ true) × Reached op (world (whole c (now v) (now stack)) trail (now memory) (bytesOf (now rows)) (now history)) ⌝ }
+    ensures { λ r. ⌜ Made keys random
+        (world (whole c (now (v .entry)) (now (stack .entry))) trail (now (memory .entry)) (bytesOf (now (rows .entry)))
+        (now (history .entry))) r (now (v .exit)) (now (stack .exit)) (now (memory .entry)) (bytesOf (now (rows .entry))) (now (history .exit)) ⌝ }
+{
+    let outcome = verdict::judged_quiet(op, c);
+    let Outcome::Done = outcome else {
+        return refused(outcome, c, trail);
+    };
+    let places = fitting::places(history);
+    let next = trail.next;
+    keeping::keep_state(history, next, c, v, stack, Action::Step(keys, random));
+    let core = act::act_quiet(op, c, v, stack, memory, keys);
+    Stepped {
+        outcome: Outcome::Done,
+        core,
+        trail: trail::grown(trail, places),
+        dark: 0,
+        copied: 0,
+    }
+}
+
+// Any other instruction that is no drawing is judged, its record is kept with the bytes that are about to change, and it acts.
+pub fn other_step(
+    op: Op,
+    c: Core,
+    v: &[u8; 16],
+    stack: &[u16; Machine::STACK],
     trail: Trail,
     memory: &mut [u8],
     rows: &mut [u64],
@@ -94,7 +122,7 @@ pub fn other_step(
     requires { ⌜ Other op × Reached op (world (whole c (now v) (now stack)) trail (now memory) (bytesOf (now rows)) (now history)) ⌝ }
     ensures { λ r. ⌜ Made keys random
         (world (whole c (now (v .entry)) (now (stack .entry))) trail (now (memory .entry)) (bytesOf (now (rows .entry)))
-        (now (history .entry))) r (now (v .exit)) (now (stack .exit)) (now (memory .exit)) (bytesOf (now (rows .exit))) (now (history .exit)) ⌝ }
+        (now (history .entry))) r (now (v .entry)) (now (stack .entry)) (now (memory .exit)) (bytesOf (now (rows .exit))) (now (history .exit)) ⌝ }
 {
     let outcome = verdict::judged(op, c, rows);
     let Outcome::Done = outcome else {
@@ -113,7 +141,7 @@ pub fn other_step(
         Action::Step(keys, random),
     );
     keeping::keep_old(history, next, change, memory, rows);
-    let core = act::act(op, c, v, stack, memory, rows, keys);
+    let core = act::act(op, c, v, memory, rows);
     Stepped {
         outcome: Outcome::Done,
         core,

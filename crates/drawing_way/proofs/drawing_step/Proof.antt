@@ -1,16 +1,16 @@
 -- It is refused by what was judged; else its record is kept in two parts, the second by the drawing itself.
 use mathlib.Core.Path.{_≡_, refl, sym, ap, ap₂, _∙_}
 use mathlib.Core.List.{List}
-use Prim.Native.Nat.{ℕ, _+_, _*_, _%_, _≤_}
+use Prim.Native.Nat.{ℕ, _+_, _*_, _≤_}
 use native.Mathlib.Omega.{arith}
-use lib.ListN.{length, getD}
+use lib.ListN.{length}
 use Rattle.rules.specs.declared.Action.the-variants.{Step}
 use Rattle.rules.specs.declared.Op.{Op}
 use Rattle.rules.specs.declared.Op.the-variants.{Draw}
 use Rattle.rules.specs.declared.Machine.{Machine}
 use Rattle.rules.specs.Refusal.{number}
 use Rattle.rules.specs.Memory.{over}
-use Rattle.rules.specs.Step.{refusalOf, changeOf, after}
+use Rattle.rules.specs.Step.{refusalOf, changeOf, after, column, row, reach}
 use Rattle.rules.specs.Dark.{darkOf}
 use Rattle.rules.specs.World.{World, world}
 use Rattle.rules.specs.Rows.{bytesOf}
@@ -39,72 +39,93 @@ short s = omega (arith, fits (given s) (op s) (s .pre))
 sized : (s : tie.Start) → length (s .args .rows .now) ≡ 32
 sized s = picture-rows (s .args .rows .now) (s .pre .ready .good .picture .size)
 
+-- before the drawing is judged: it is known where it starts
+abbrev start : tie.After-row-of → tie.Start
+start c = c .before .before .before .before .before .before .before
+
+column-is : (c : tie.After-row-of) → c .before .before .column-of .result ≡ column (machine (start c)) (start c .args .x)
+column-is c = c .before .before .column-of .ensures .0
+
+row-is : (c : tie.After-row-of) → c .row-of .result ≡ row (machine (start c)) (start c .args .y)
+row-is c = c .row-of .ensures .0
+
 drawable-requires : tie.Need-drawable-requires
 drawable-requires c κs =
-    let s = c .before .before .before .before .before in
+    let s = start (c .before) in
     let good = s .pre .ready .good in
-    (good .machine .lit, good .machine .end .most, good .memory .size, sized s, short s)
+    (good .machine .lit, good .machine .end .most, c .before .before .before .column-of .ensures .1, c .before .row-of .ensures .1, good .memory .size, sized s, short s)
+
+-- what is judged of a drawing from there on is the verdict
+abbrev placed : tie.After-drawable → tie.After-row-of
+placed c = c .before .before
+
+says : (c : tie.After-drawable) → let s = start (placed c) in number (c .drawable .result) ≡ verdict (given s) (s .pre .ready) (op s)
+unfolding refusalOf after
+says c =
+    let a = start (placed c) .args in
+    rw (← column-is (placed c), ← row-is (placed c)) (c .drawable .ensures (a .v .now) (a .stack .now))
 
 returns : tie.Need-returns
-unfolding refusalOf
 returns c =
     let judged = c .before .before .before in
-    let s = judged .before .before .before .before .before .before in
+    let s = start (placed judged) in
     let a = s .args in
     let told = c .before .enum-told2 .given in
-    let says = rw (told .1) at (judged .drawable .ensures (a .stack .now)) in
-    let (gives, dark, copied) = reached-refused (given s) (op s) (s .pre) (a .keys) (a .random) (told .0 .0) says in
+    let (gives, dark, copied) = reached-refused (given s) (op s) (s .pre) (a .keys) (a .random) (told .0 .0) (sym (ap number (told .1)) ∙ says judged) in
     rw (c .refused .ensures, told .1) (back (a .keys) (a .random) (a .c) (a .v .now) (a .stack .now) (a .trail) (a .memory .now) (bytesOf (a .rows .now)) (a .history .now) _ gives dark copied)
 
 -- what the judgement leaves
-passed : (c : tie.After-enum-told) → let s = c .before .before .before .before .before .before .before .before in verdict (given s) (s .pre .ready) (op s) ≡ 0
-unfolding refusalOf
-passed c =
-    let judged = c .before .before in
-    let s = judged .before .before .before .before .before .before in
-    sym (judged .drawable .ensures (s .args .stack .now)) ∙ ap number (c .enum-told .given .1)
+abbrev allowed-at : tie.After-enum-told → tie.After-row-of
+allowed-at c = placed (c .before .before)
+
+passed : (c : tie.After-enum-told) → let s = start (allowed-at c) in verdict (given s) (s .pre .ready) (op s) ≡ 0
+passed c = sym (says (c .before .before)) ∙ ap number (c .enum-told .given .1)
+
+within : (c : tie.After-enum-told) → let s = start (allowed-at c) in reach (machine s) (s .args .n) ≤ 4096
+within c =
+    let s = start (allowed-at c) in
+    let allowed = both-zero (refusalOf (op s) (machine s)) _ (passed c) .0 in
+    draw-reach (op s) (machine s) allowed (s .pre .ready .good .machine .end .most) _ _ _ refl
 
 keep-requires : tie.Need-keep-requires
 keep-requires c κs =
-    let s = c .before .before .before .before .before .before .before .before .before .before .before .before .before .before .before in
+    let s = start (allowed-at (c .before .before .before .before .before)) in
     (place-inside (given s) (s .pre .ready), s .pre .ready .good .machine .calls .most)
 
+-- the change is kept
+abbrev told : tie.After-slice-known3 → tie.After-enum-told
+told c = c .before .before .before .before .before .before .before .before
+
 pattern-requires : tie.Need-pattern-requires
-pattern-requires c κs =
-    let told = c .before .before .before .before .before .before .before .before .before .before in
-    let s = told .before .before .before .before .before .before .before .before in
-    let allowed = both-zero (refusalOf (op s) (machine s)) _ (passed told) .0 in
-    (draw-reach (op s) (machine s) allowed (s .pre .ready .good .machine .end .most) _ _ _ refl, s .pre .ready .good .memory .size)
+pattern-requires c κs = (within (told c), start (allowed-at (told c)) .pre .ready .good .memory .size)
 
 -- the pattern is as long as it was asked for
-pattern-is : (c : tie.After-pattern) → let s = c .before .before .before .before .before .before .before .before .before .before .before .before .before .before .before .before .before .before .before in
-    length (c .pattern .result .now) ≡ s .args .n
+pattern-is : (c : tie.After-pattern) → length (c .pattern .result .now) ≡ start (allowed-at (told (c .before))) .args .n
 pattern-is c =
-    let told = c .before .before .before .before .before .before .before .before .before .before .before in
-    let s = told .before .before .before .before .before .before .before .before in
-    let allowed = both-zero (refusalOf (op s) (machine s)) _ (passed told) .0 in
+    let s = start (allowed-at (told (c .before))) in
     rw (c .pattern .ensures)
-    (pattern-length (s .args .memory .now) (s .args .c .i) (s .args .n) (s .pre .ready .good .memory .size)
-    (draw-reach (op s) (machine s) allowed (s .pre .ready .good .machine .end .most) _ _ _ refl))
+    (pattern-length (s .args .memory .now) (s .args .c .i) (s .args .n) (s .pre .ready .good .memory .size) (within (told (c .before))))
 
 grown-requires : tie.Need-grown-requires
 grown-requires c κs =
-    let placed = c .before .before .before .before .before .before .before .before .before .before .before .before .before .before .before .before .before .before in
-    let s = placed .before .before .before .before .before .before .before .before .before .before in
-    rw (placed .places .ensures) (in-range (given s) (s .pre .ready))
+    let counted = c .before .before .before .before .before .before .before .before .before .before .before .before .before .before .before .before in
+    let s = start (allowed-at (counted .before .before)) in
+    rw (counted .places .ensures) (in-range (given s) (s .pre .ready))
 
 draw-requires : tie.Need-draw-requires
 draw-requires c κs =
     let drawn = c .before .before .before in
-    let told = drawn .before .before .before .before .before .before .before .before .before .before .before in
-    let s = told .before .before .before .before .before .before .before .before in
+    let at = allowed-at (told (drawn .before)) in
+    let s = start at in
     let a = s .args in
-    let passes = both-zero (refusalOf (op s) (machine s)) _ (passed told) .1 in
+    let passes = both-zero (refusalOf (op s) (machine s)) _ (passed (told (drawn .before))) .1 in
     let long = pattern-is drawn in (
       omega (arith, s .pre .near, s .pre .ready .good .machine .end .most),
+      at .before .before .column-of .ensures .1,
+      at .row-of .ensures .1,
       sized s,
       omega (arith, long, short s),
-      rw (drawn .pattern .ensures) (draw-passes (op s) (machine s) (a .memory .now) (bytesOf (a .rows .now)) passes _ _ _ refl),
+      rw (drawn .pattern .ensures) (rw (← column-is at, ← row-is at) at (draw-passes (op s) (machine s) (a .memory .now) (bytesOf (a .rows .now)) passes _ _ _ refl)),
       omega (arith, place-inside (given s) (s .pre .ready), drawn .before .before .history .given),
     )
 
@@ -115,24 +136,28 @@ returns-2 c =
     let pattern = drawing .before .before .before .before in
     let kept = pattern .before .before .before in
     let changed = kept .before .before .before in
-    let placed = changed .before .before .before in
-    let told = placed .before .before in
-    let s = told .before .before .before .before .before .before .before .before in
+    let counted = changed .before in
+    let judged = counted .before .before in
+    let at = allowed-at judged in
+    let s = start at in
     let a = s .args in
     let r = s .pre in
     let w = given s in
     let P = bytesOf (a .rows .now) in
-    let row = getD (a .v .now) (a .y % 16) 0 % 32 in
-    let change = rw (changed .before .row-of .ensures .0) at (changed .rows-change .ensures) in
-    let (olds, many) = rows-old (a .n) row (a .memory .now) P in
+    let change = rw (row-is at) at (changed .rows-change .ensures) in
+    let (olds, many) = rows-old (a .n) (row (machine s) (a .y)) (a .memory .now) P in
     let drawn = drawing .draw .ensures in
     let long = pattern-is pattern in
-    let laid = rw long at (drawn .1 .1 .1) ∙ sym (ap₂ (λ (l : List ℕ) (k : ℕ). over (kept .keep .last .0) (292 * a .trail .next + 32) l k) olds many) in
-    let written = step-kept w (r .ready) (op s) (r .there) (r .near) (passed told) (a .rows .now) _ _ (Step (a .keys) (a .random)) (sized s) (rw change at (kept .keep .ensures)) laid in
-    made w (op s) r (passed told) (a .keys) (a .random) _ _ _ _ _ _ refl
-    (rw (← pattern .pattern .ensures) (record { machine = drawn .1 .0 _; memory = refl; picture = drawn .0 }))
-    (rw (placed .places .ensures) at (c .before .grown .ensures)) written
-    (rw (← pattern .pattern .ensures) (drawn .1 .1 .0 .0)) (omega (arith, drawn .1 .1 .0 .1, long, short s)) (rw change at (c .count-of .ensures))
+    let laid = rw (row-is at, long) at (drawn .1 .1 .1) ∙ sym (ap₂ (λ (l : List ℕ) (k : ℕ). over (kept .keep .last .0) (292 * a .trail .next + 32) l k) olds many) in
+    let written = step-kept w (r .ready) (op s) (r .there) (r .near) (passed judged) (a .rows .now) _ _ (Step (a .keys) (a .random)) (sized s) (rw change at (kept .keep .ensures)) laid in
+    made w (op s) r (passed judged) (a .keys) (a .random) _ _ _ _ _ _ refl
+    (rw (← pattern .pattern .ensures, ← column-is at, ← row-is at) (record { machine = drawn .1 .0 _; memory = refl; picture = drawn .0 }))
+    (rw (counted .places .ensures) at (c .before .grown .ensures)) written
+    (rw (← pattern .pattern .ensures, ← column-is at, ← row-is at) (drawn .1 .1 .0 .0)) (omega (arith, drawn .1 .1 .0 .1, long, short s)) (rw change at (c .count-of .ensures))
 
 pub drawing-step-spec : {M : Type 1} → statement M
-drawing-step-spec = tie.close (tie.spec drawable-requires (λ c. omega arith) (λ c. omega arith) (λ c. omega arith) (λ c. omega arith) returns (λ c. omega arith) (λ c. omega arith) (λ c. omega arith) keep-requires (λ c. omega arith) (λ c. omega arith) pattern-requires draw-requires grown-requires (λ c. omega arith) (λ c. omega arith) (λ c. omega arith) (λ c. omega arith) returns-2)
+drawing-step-spec =
+    tie.close
+    (tie.spec (λ c. omega arith) (λ c. omega arith) (λ c. omega arith) (λ c. omega arith) drawable-requires (λ c. omega arith) (λ c. omega arith) (λ c. omega arith)
+    (λ c. omega arith) returns (λ c. omega arith) (λ c. omega arith) keep-requires (λ c. omega arith) (λ c. omega arith) pattern-requires (λ c. omega arith)
+    draw-requires grown-requires (λ c. omega arith) (λ c. omega arith) (λ c. omega arith) (λ c. omega arith) returns-2)

@@ -23,8 +23,7 @@ returns c v =
     let y = second .before .last-fields .ensures in
     second .lay-eight2 .ensures
     ∙ ap (λ (l : List ℕ). over l 24 (eightOf (second .before .last-fields .result)) 8) (first .lay-eight .ensures)
-    ∙ overlapped (start .args .place .now) _ _ 18 (omega arith) (listed-length (λ j. byteIn j (made .first-fields .result)) 8)
-    (listed-length (λ j. byteIn j (second .before .last-fields .result)) 8)
+    ∙ overlapped (start .args .place .now) _ _ 18 8 6 8 (omega arith) (listed-length (λ j. byteIn j (made .first-fields .result)) 8) (omega arith) (omega arith)
     ∙ ap₂ (λ (a b : List ℕ). over (start .args .place .now) 18 (take 6 a ++ b) 14) x y
     ∙ rw last
 

@@ -6,7 +6,7 @@ use Rattle.rules.specs.Record.{mark, fields, inputs}
 use Rattle.rules.proofs.Back.{mark-two, inputs-four}
 use Rattle.parts.specs.Whole.{whole}
 use Rattle.keeping.specs.Writable.{blank}
-use Rattle.keeping.proofs.Laid.{blank-laid}
+use Rattle.keeping.proofs.Laid.{all-laid}
 use Rattle.keeping.proofs.write.Statement.{statement}
 use Rattle.keeping.proofs.write.Tie as tie
 
@@ -24,10 +24,10 @@ returns c =
     let a = start .args .action in
     let v = start .args .v .now in
     let f = fields (whole (start .args .c) v (start .args .stack .now)) ch in
-    blank-laid (start .args .place .now) (mark ch) f v (inputs a)
+    all-laid (start .args .place .now) (mark ch) f v (inputs a) 14 (omega arith)
     (first .lay .ensures) (made .before .mark-of .ensures) (mark-two ch) (omega arith)
     (second .lay-fields .ensures v) refl (omega arith)
-    (clear .clear-old .ensures) (last .lay2 .ensures) (made .inputs-of .ensures) (inputs-four a) (variables .lay-variables .ensures)
+    (clear .clear-from .ensures) (last .lay2 .ensures) (made .inputs-of .ensures) (inputs-four a) (variables .lay-variables .ensures)
 
 pub write-spec : {M : Type 1} → statement M
 write-spec =

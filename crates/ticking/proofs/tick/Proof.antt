@@ -24,7 +24,7 @@ returns c memory picture =
       memory = refl;
       picture = refl;
       history =
-          c .before .before .before .before .keep .ensures
+          c .before .before .before .before .keep-state .ensures
           ∙ ap (λ (r : List ℕ). over (a .history .now) at r 292) (nothing-old (whole (a .c) (a .v .now) (a .stack .now)) Tick);
     }
 

@@ -1,8 +1,7 @@
 -- Each arm is the definition's clause for the instruction that was matched, by the test that led there; one that leaves the picture leaves
--- the number in its range.
+-- the number in its range. Six are never asked.
 use mathlib.Core.Path.{_≡_, _∙_}
 use Prim.Native.Nat.{ℕ}
-use borrow.Author.Tests.{lt-ltb, le-ltb}
 use borrow.Author.Needs.{needs}
 use Rattle.rules.specs.Number.{orLater}
 use Rattle.rules.specs.Rows.{bytesOf}
@@ -16,72 +15,49 @@ stays : (s : tie.Start) (n : ℕ) → let P = bytesOf (s .args .rows .now) in n 
 stays s = still (s .args .c .lit) (bytesOf (s .args .rows .now)) (s .pre .1)
 
 returns : tie.Need-returns
-unfolding refusalOf after
-returns c v stack memory =
-    let told = c .before .before in
-    rw (told .enum-told3 .given .1, lt-ltb _ 12 (c .if1 .taken)) (stays (told .before .before .before) 0)
+returns c v stack memory = absurd (rw (c .enum-told .given .1) at (c .before .before .before .pre .0))
 
 returns-2 : tie.Need-returns-2
-unfolding refusalOf after
-returns-2 c v stack memory =
-    let told = c .before .before in
-    rw (told .enum-told4 .given .1, lt-ltb 0 _ (c .if2 .taken)) (stays (told .before .before .before) 0)
+returns-2 c v stack memory = absurd (rw (c .enum-told2 .given .1) at (c .before .before .before .pre .0))
 
 returns-3 : tie.Need-returns-3
-returns-3 c v stack memory = absurd (rw (c .enum-told .given .1) at (c .before .before .before .pre .0))
+returns-3 c v stack memory = absurd (rw (c .enum-told3 .given .1) at (c .before .before .before .pre .0))
 
 returns-4 : tie.Need-returns-4
-unfolding refusalOf after
-returns-4 c v stack memory = rw (c .enum-told2 .given .1) (stays (c .before .before .before) 0)
+returns-4 c v stack memory = absurd (rw (c .enum-told4 .given .1) at (c .before .before .before .pre .0))
 
 returns-5 : tie.Need-returns-5
 unfolding refusalOf after
-returns-5 c v stack memory =
-    let told = c .before .before in
-    rw (told .enum-told3 .given .1, le-ltb _ 12 (c .if1 .left)) (stays (told .before .before .before) 4)
+returns-5 c v stack memory = rw (c .before .enum-told5 .given .1) (c .late-clearing .ensures)
 
 returns-6 : tie.Need-returns-6
-unfolding refusalOf after
-returns-6 c v stack memory =
-    let told = c .before .before in
-    rw (told .enum-told4 .given .1, le-ltb 0 _ (c .if2 .left)) (stays (told .before .before .before) 5)
+returns-6 c v stack memory = absurd (rw (c .enum-told6 .given .1) at (c .before .before .before .pre .0))
 
 returns-7 : tie.Need-returns-7
 unfolding refusalOf after
-returns-7 c v stack memory = rw (c .before .enum-told5 .given .1) (c .late-clearing .ensures)
-
-returns-8 : tie.Need-returns-8
-returns-8 c v stack memory = absurd (rw (c .enum-told6 .given .1) at (c .before .before .before .pre .0))
-
-returns-9 : tie.Need-returns-9
-unfolding refusalOf after
-returns-9 c v stack memory =
+returns-7 c v stack memory =
     let told = c .before in
     let s = told .before .before .before in
     rw (told .enum-told7 .given .1) (c .past .ensures v stack ∙ stays s _)
 
-returns-10 : tie.Need-returns-10
+returns-8 : tie.Need-returns-8
 unfolding refusalOf after
-returns-10 c v stack memory =
+returns-8 c v stack memory =
     let op = c .before .before .before in
     let s = op .before .before .before in
     rw (op .op .given .1, ← c .before .up-to .ensures) (c .past2 .ensures v stack ∙ stays s _)
 
+returns-9 : tie.Need-returns-9
+returns-9 c v stack memory = absurd (rw (c .enum-told8 .given .1) at (c .before .before .before .pre .0))
+
+returns-10 : tie.Need-returns-10
+unfolding refusalOf after
+returns-10 c v stack memory = rw (c .enum-told9 .given .1) (stays (c .before .before .before) 2)
+
 returns-11 : tie.Need-returns-11
 unfolding refusalOf after
-returns-11 c v stack memory =
-    let op = c .before .before .before in
-    let s = op .before .before .before in
-    rw (op .op2 .given .1, ← c .before .up-to2 .ensures) (c .past3 .ensures v stack ∙ stays s _)
-
-returns-12 : tie.Need-returns-12
-unfolding refusalOf after
-returns-12 c v stack memory = rw (c .enum-told8 .given .1) (stays (c .before .before .before) 2)
-
-returns-13 : tie.Need-returns-13
-unfolding refusalOf after
-returns-13 c v stack memory = rw (c .enum-told9 .given .1) (stays (c .before .before .before) 3)
+returns-11 c v stack memory = rw (c .enum-told10 .given .1) (stays (c .before .before .before) 3)
 
 pub judged-spec : {M : Type 1} → statement M
 judged-spec =
-    tie.close (tie.spec (search needs) (search needs) (search needs) (search needs) returns (search needs) returns-2 (search needs) (search needs) (search needs) (search needs) (search needs) (search needs) (search needs) (search needs) (search needs) (search needs) (search needs) (search needs) (search needs) returns-3 returns-4 returns-5 returns-6 returns-7 returns-8 returns-9 returns-10 returns-11 returns-12 returns-13)
+    tie.close (tie.spec (search needs) (search needs) (search needs) (search needs) (search needs) (search needs) (search needs) (search needs) (search needs) (search needs) (search needs) (search needs) (search needs) (search needs) (search needs) returns returns-2 returns-3 returns-4 returns-5 returns-6 returns-7 returns-8 returns-9 returns-10 returns-11)

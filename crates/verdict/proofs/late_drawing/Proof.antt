@@ -16,17 +16,13 @@ returns c =
 late-requires : tie.Need-late-requires
 late-requires c κs =
     let few = c .would-turn .ensures .few in
-    let s = c .before .before .before .before .before .before in
-    (omega (arith, few, s .pre .2), omega (arith, few, s .pre .2))
+    let s = c .before .before .before .before in
+    (omega (arith, few, s .pre .4), omega (arith, few, s .pre .4))
 
 returns-2 : tie.Need-returns-2
 returns-2 c =
     let turned = c .before .would-turn .ensures in
-    let row = c .before .before .row-of .ensures .0 in
-    let column = c .before .before .before .get .ensures in
-    rw (← row, ← column) (c .late .ensures _ _ (drawn-balance _ _ _ _ _ (turned .dark) (turned .lit)))
+    c .late .ensures _ _ (drawn-balance _ _ _ _ _ (turned .dark) (turned .lit))
 
 pub late-drawing-spec : {M : Type 1} → statement M
-late-drawing-spec =
-    tie.close
-    (tie.spec (search needs) (search needs) returns (search needs) (search needs) (search needs) (search needs) (search needs) late-requires returns-2)
+late-drawing-spec = tie.close (tie.spec (search needs) (search needs) returns (search needs) late-requires returns-2)

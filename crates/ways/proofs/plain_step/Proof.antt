@@ -23,8 +23,8 @@ use Rattle.ways.proofs.plain_step.Tie as tie
 abbrev given : tie.Start → World
 given s = let a = s .args in world (whole (a .c) (a .v .now) (a .stack .now)) (a .trail) (a .memory .now) (bytesOf (a .rows .now)) (a .history .now)
 
-keep-requires : tie.Need-keep-requires
-keep-requires c κs =
+keep-state-requires : tie.Need-keep-state-requires
+keep-state-requires c κs =
     let s = c .before .before .before .before .before .before .before in
     (place-inside (given s) (s .pre .ready), s .pre .ready .good .machine .calls .most)
 
@@ -52,8 +52,8 @@ returns c =
     made w (Plain (a .simple)) (s .pre) (plain-passes w (s .pre .ready) (a .simple)) (a .keys) (a .random) _ _ _ _ _ _ refl
     (still (Plain (a .simple)) (a .keys) (a .random) m (a .memory .now) (bytesOf (a .rows .now)) refl (record { machine = acts; memory = refl; picture = refl }))
     (rw (placed .places .ensures) at (c .grown .ensures))
-    (kept .keep .ensures ∙ ap (λ (l : List ℕ). over (a .history .now) (292 * a .trail .next) l 292) (nothing-old m (Step (a .keys) (a .random))))
+    (kept .keep-state .ensures ∙ ap (λ (l : List ℕ). over (a .history .now) (292 * a .trail .next) l 292) (nothing-old m (Step (a .keys) (a .random))))
     refl (omega arith) refl
 
 pub plain-step-spec : {M : Type 1} → statement M
-plain-step-spec = tie.close (tie.spec (λ c. omega arith) keep-requires simple-requires (λ c. omega arith) grown-requires (λ c. omega arith) returns)
+plain-step-spec = tie.close (tie.spec (λ c. omega arith) keep-state-requires simple-requires (λ c. omega arith) grown-requires (λ c. omega arith) returns)

@@ -1,0 +1,2 @@
+-- What a quiet instruction leaves.
+pub mod Quiet
