@@ -77,7 +77,7 @@ pub fn drawable(c: Core, column: usize, row: usize, n: u8, memory: &[u8], rows: 
     late_drawing(c.lit, column, row, transfers::pattern(c.i, n, memory), rows)
 }
 
-// What a quiet instruction needs: 4, 5 or 6. It leaves the picture, so no late 10 can come.
+// What a quiet instruction needs: 4, 5 or 6. It leaves the picture, so no late 10 can come. Of the others it is never asked.
 pub fn judged_quiet(op: Op, c: Core) -> Outcome
     requires { ⌜ (quiet op ≡ true) × (c .lit ≤ spotCount) ⌝ }
     ensures { λ r. ⌜
@@ -110,7 +110,7 @@ pub fn judged_quiet(op: Op, c: Core) -> Outcome
 }
 
 // What any other instruction needs that is no drawing: 2 or 3, or 6, and after it the late 10, of a number of lit spots that would leave
-// its range.
+// its range. Of those that have a way of their own it is never asked.
 pub fn judged(op: Op, c: Core, rows: &[u64]) -> Outcome
     requires { ⌜ Other op × (c .lit ≤ spotCount) × (length (now rows) ≡ 32) ⌝ }
     ensures { λ r. ⌜ ((v stack memory : List ℕ) → number r ≡ orLater (rule.refusalOf op (whole c v stack))
