@@ -444,7 +444,7 @@ impl Work {
             _ => {}
         }
 
-        // The record comes before the act: so no instruction waits for it.
+        // The record comes before the act, which changes what it holds.
         self.record(places, &head);
         let (vx, vy) = (self.v.get(x), self.v.get(y));
         let skip = |condition: bool| 2 * u16::from(condition);

@@ -1,6 +1,5 @@
 // What an accepted instruction does, but for a drawing and for one on the state alone: a quiet one, and any other. Nothing can fail here any
 // more. An arm that only hands the core back is never asked.
-ghost use mathlib.Core.Path.{_≡_};
 ghost use mathlib.Core.List.{List};
 ghost use Prim.Native.Nat.{ℕ};
 ghost use Rattle.rules.specs.State.{pictureSize};

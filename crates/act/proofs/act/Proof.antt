@@ -1,5 +1,5 @@
 -- Each arm is the definition's clause for the instruction that was matched: its callee's promise, and what it leaves alone. Eight are never asked.
-use mathlib.Core.Path.{_≡_, refl, _∙_}
+use mathlib.Core.Path.{_≡_, refl}
 use mathlib.Core.List.{List, []}
 use Prim.Native.Nat.{ℕ}
 use native.Mathlib.Omega.{arith}

@@ -5,7 +5,7 @@ use mathlib.Core.Bool.{false≢true}
 use mathlib.Core.List.{List}
 use Prim.Native.Nat.{ℕ}
 use native.Mathlib.Omega.{arith}
-use borrow.Author.Tests.{lt-ltb, le-ltb, le-leb, eqb-true}
+use borrow.Author.Tests.{lt-ltb, le-ltb, le-leb}
 use borrow.Author.Needs.{needs}
 use Rattle.rules.specs.Number.{orLater}
 use Rattle.rules.specs.Step.{refusalOf, litRefusal, pictureAfter}
