@@ -41,6 +41,9 @@ type Memory = [u8; MEMORY];
 type Rows = [u64; ROWS];
 type Place = [u8; PLACE];
 type Image = [u8; IMAGE];
+/// Entries 12 to 15 stay 0. So the entry before depth 0, taken modulo 16, reads as
+/// 0, and no index needs a bounds test.
+type Stack = [u16; 16];
 
 const DIGITS: [u8; 80] = [
     0xF0, 0x90, 0x90, 0x90, 0xF0, 0x60, 0x20, 0x20, 0x20, 0x70, 0xF0, 0x10, 0xF0, 0x80, 0xF0, 0xF0,
@@ -53,7 +56,7 @@ const DIGITS: [u8; 80] = [
 // ---- The working state ----------------------------------------------------
 
 /// V0 to VF.
-#[derive(Clone, Copy)]
+#[derive(Clone, Copy, Default)]
 struct Registers([u8; 16]);
 
 impl Registers {
@@ -108,17 +111,18 @@ impl Head {
     }
 }
 
-struct Work {
-    v: Registers,
+/// The variables and the stack are lent, and so stand apart. An array that is
+/// indexed keeps the whole struct that holds it in memory, and there a number of four
+/// bytes that is read over a byte just written waits for it.
+struct Work<'a> {
+    v: &'a mut Registers,
+    stack: &'a mut Stack,
     i: u16,
     pc: u16,
     depth: u8,
     delay: u8,
     tone: u8,
     held: u8,
-    /// Entries 12 to 15 stay 0. So the entry before depth 0, taken modulo 16,
-    /// reads as 0, and no index needs a bounds test.
-    stack: [u16; 16],
     next: usize,
     kept: usize,
     /// Set by the calls and not by an action, so that a run's actions do no work
@@ -141,11 +145,16 @@ fn number(bytes: &[u8], at: usize) -> u16 {
     u16::from_be_bytes([bytes[at], bytes[at + 1]])
 }
 
-impl Work {
-    /// None if the image is unsound or its numbers are out of range.
+impl<'a> Work<'a> {
+    /// Reads the variables and the stack into what is lent for them. None if the image
+    /// is unsound or its numbers are out of range.
     #[inline(always)]
-    fn read(image: &Image, places: usize) -> Option<Work> {
-        let mut stack = [0; 16];
+    fn read(
+        image: &Image,
+        places: usize,
+        v: &'a mut Registers,
+        stack: &'a mut Stack,
+    ) -> Option<Work<'a>> {
         for (entry, bytes) in stack.iter_mut().zip(image[24..48].as_chunks::<2>().0) {
             *entry = u16::from_be_bytes(*bytes);
         }
@@ -161,7 +170,7 @@ impl Work {
         let lit = last << 32 | last >> 48;
         let end = (last >> 32) as u16;
         let sound = depth <= 12
-            && entries_from(&stack, depth) == 0
+            && entries_from(stack, depth) == 0
             && (held <= 15 || held == NO_KEY)
             && edition <= SECOND_EDITION
             && image[53] == 0
@@ -172,16 +181,16 @@ impl Work {
         if !sound {
             return None;
         }
-        let v = image.first_chunk().expect("64 bytes hold 16");
+        v.0 = *image.first_chunk().expect("64 bytes hold 16");
         Some(Work {
-            v: Registers(*v),
+            v,
+            stack,
             i: number(image, 16),
             pc: number(image, 18),
             depth,
             delay: image[21],
             tone: image[22],
             held,
-            stack,
             next,
             kept,
             ahead,
@@ -208,7 +217,7 @@ impl Work {
             .as_chunks_mut::<2>()
             .0
             .iter_mut()
-            .zip(self.stack)
+            .zip(*self.stack)
         {
             *bytes = entry.to_be_bytes();
         }
@@ -245,17 +254,16 @@ impl Work {
     /// and lends the zeros for the old bytes. The variables come last: sixteen bytes
     /// read at once wait for a byte among them that the last step wrote.
     #[inline(always)]
-    fn record<'a>(&mut self, places: &'a mut [Place], head: &Head) -> &'a mut [u8; 256] {
-        let v = self.v.0;
+    fn record<'p>(&mut self, places: &'p mut [Place], head: &Head) -> &'p mut [u8; 256] {
         let place = self.place(places, head);
         clear(old_of(place));
-        place[2..18].copy_from_slice(&v);
+        place[2..18].copy_from_slice(&self.v.0);
         old_of(place)
     }
 
     /// The same, but the variables and the old bytes are as they came.
     #[inline(always)]
-    fn place<'a>(&mut self, places: &'a mut [Place], head: &Head) -> &'a mut Place {
+    fn place<'p>(&mut self, places: &'p mut [Place], head: &Head) -> &'p mut Place {
         let count = places.len();
         let place = &mut places[self.next];
         self.next += 1;
@@ -310,10 +318,9 @@ impl Work {
                     self.lit = lit;
                     head.mark(b"DI", 0, PICTURE);
                     self.copied += PICTURE as u64;
-                    let v = self.v.0;
                     let place = self.place(places, &head);
                     write_bytes(rows, old_of(place));
-                    place[2..18].copy_from_slice(&v);
+                    place[2..18].copy_from_slice(&self.v.0);
                     rows.fill(0);
                     self.pc = pc;
                     self.held = NO_KEY;
@@ -358,40 +365,27 @@ impl Work {
                     // ends stays between them. Near an end there is a look before
                     // the writing.
                     let most = 8 * shown as u64;
-                    if !(most..=SPOTS - most).contains(&self.lit) {
-                        let turned = turned_spots(memory, i, shown, column);
-                        if leaves_range(self.lit + turned, rows, pattern, column) {
-                            return UNSOUND;
-                        }
+                    if !(most..=SPOTS - most).contains(&self.lit)
+                        && leaves_range(self.lit, rows, pattern, column)
+                    {
+                        return UNSOUND;
                     }
                     head.mark(b"DI", 8 * row, 8 * shown);
                     self.copied += 8 * shown as u64;
-                    let old = self.record(places, &head);
-                    let (pairs, single) = rows.as_chunks_mut::<2>();
-                    let (patterns, last) = pattern[..shown].as_chunks::<2>();
-                    let (kept, rest) = old.as_chunks_mut().0.split_at_mut(2 * pairs.len());
-                    // A byte for each row: its spots that were lit under a 1
-                    // bit. So all fifteen rows are counted at once. Two rows in
-                    // a turn are quicker than one.
-                    let mut met = 0u128;
-                    for (([upper, lower], [first, second]), [kept, below]) in
-                        pairs.iter_mut().zip(patterns).zip(kept.as_chunks_mut().0)
-                    {
-                        let both = draw_row(upper, *first, column, kept) >> 8
-                            | draw_row(lower, *second, column, below);
-                        met = met >> 16 | u128::from(both) << 64;
+                    let kept = self.record(places, &head).as_chunks_mut().0;
+                    let eight = shown.min(8);
+                    let (upper, lower) = rows.split_at_mut(eight);
+                    let (first, last) = pattern[..shown].split_at(eight);
+                    let (kept, below) = kept.split_at_mut(eight);
+                    let (mut darkened, mut turned) = draw_rows(upper, first, column, kept);
+                    if shown > 8 {
+                        let (dark, all) = draw_rows(lower, last, column, below);
+                        darkened += dark;
+                        turned += all;
                     }
-                    if let ([row], [byte]) = (single, last) {
-                        let one = draw_row(row, *byte, column, &mut rest[0]);
-                        met = met >> 8 | u128::from(one) << 64;
-                    }
-                    // The two counts stand together, so that neither has to wait
-                    // for the other.
-                    let darkened = u64::from(met.count_ones());
-                    let turned = turned_spots(memory, i, shown, column);
                     self.went_dark += darkened;
                     self.lit = self.lit + turned - 2 * darkened;
-                    self.v.set_flag(met != 0);
+                    self.v.set_flag(darkened != 0);
                     self.pc = pc;
                     self.held = NO_KEY;
                     return 0;
@@ -428,7 +422,7 @@ impl Work {
                     head.mark(b"ME", i, x + 1);
                     self.copied += x as u64 + 1;
                     let old = self.record(places, &head);
-                    store(memory, i, x, self.v, old);
+                    store(memory, i, x, *self.v, old);
                     self.i += x as u16 + 1;
                     self.pc = pc;
                     self.held = NO_KEY;
@@ -532,7 +526,7 @@ impl Work {
                 0x1E => self.i = self.i.wrapping_add(u16::from(vx)),
                 0x29 => self.i = 5 * u16::from(vx & 15),
                 _ => {
-                    fetch(memory, usize::from(self.i), x, &mut self.v);
+                    fetch(memory, usize::from(self.i), x, self.v);
                     self.i += x as u16 + 1;
                 }
             },
@@ -585,7 +579,7 @@ impl Work {
             _ => return DAMAGED_RECORD,
         }
         let v = record[2..].first_chunk().expect("290 hold 16");
-        self.v = Registers(*v);
+        *self.v = Registers(*v);
         self.i = number(record, 18);
         self.pc = number(record, 20);
         self.depth = depth;
@@ -633,7 +627,7 @@ fn is_end(end: u16) -> bool {
 /// All stack entries at and above the depth, one over the other. Looking at
 /// every entry without a branch is quicker than stopping at the first.
 #[inline(always)]
-fn entries_from(stack: &[u16; 16], depth: u8) -> u16 {
+fn entries_from(stack: &Stack, depth: u8) -> u16 {
     let mut over = 0;
     for (entry, number) in (0u16..).zip(stack) {
         over |= if entry >= u16::from(depth) {
@@ -661,50 +655,59 @@ fn clear(old: &mut [u8; 256]) {
     middle.fill(0);
 }
 
-/// Draws a byte of a pattern over a row and keeps the row as it was. Answers, in
-/// the highest byte, which spots were lit under a 1 bit.
+/// Where a byte of a pattern turns a row over. What passes the last column falls out.
 #[inline(always)]
-fn draw_row(row: &mut u64, byte: u8, column: u8, kept: &mut [u8; 8]) -> u64 {
-    let before = *row;
-    let bits = u64::from(byte) << 56;
-    *kept = before.to_be_bytes();
-    *row = before ^ bits >> column;
-    before << column & bits
+fn mask_of(byte: u8, column: u8) -> u64 {
+    u64::from(byte) << 56 >> column
 }
 
-/// Sixteen bytes that let through what stands beside them, then sixteen that do
-/// not. So those from place 16 - k on let the first k of sixteen through.
-const THROUGH: &[u8] = [[0xFF; 16], [0; 16]].as_flattened();
-
-/// How many spots a drawing turns: the 1 bits of the rows that are shown, but for
-/// those past the right edge. Away from the end of memory sixteen bytes are taken
-/// at once.
+/// Spots of one row more, which lie in eight columns, join those of the rows before
+/// it. These move on by eight first, so that the row finds its columns free.
 #[inline(always)]
-fn turned_spots(memory: &Memory, i: usize, shown: usize, column: u8) -> u64 {
-    let in_the_row = (0xFF_u64 << 56 >> column << column >> 56) as u8;
-    let mut turned = 0;
-    if let Some(pattern) = memory[i..].first_chunk::<16>() {
-        for (byte, through) in pattern.iter().zip(&THROUGH[16 - shown..]) {
-            turned += (byte & through & in_the_row).count_ones() as u8;
-        }
-    } else {
-        for byte in &memory[i..i + shown] {
-            turned += (byte & in_the_row).count_ones() as u8;
-        }
+fn gather(spots: &mut u64, more: u64) {
+    *spots = spots.rotate_left(8) | more;
+}
+
+/// Draws at most eight bytes of a pattern over as many rows, and keeps the rows as
+/// they were. Answers how many spots went dark and how many were turned, counted at
+/// once. Two rows in a turn are quicker than one.
+#[inline(always)]
+fn draw_rows(rows: &mut [u64], pattern: &[u8], column: u8, kept: &mut [[u8; 8]]) -> (u64, u64) {
+    let (mut met, mut shown) = (0, 0);
+    let draw_row = |row: &mut u64, byte: u8, kept: &mut [u8; 8], met: &mut u64, shown: &mut u64| {
+        let before = *row;
+        let mask = mask_of(byte, column);
+        *kept = before.to_be_bytes();
+        *row = before ^ mask;
+        gather(met, before & mask);
+        gather(shown, mask);
+    };
+    let (pairs, single) = rows.as_chunks_mut::<2>();
+    let (patterns, last) = pattern.as_chunks::<2>();
+    let (kept, rest) = kept.split_at_mut(2 * pairs.len());
+    for (([upper, lower], [first, second]), [kept, below]) in
+        pairs.iter_mut().zip(patterns).zip(kept.as_chunks_mut().0)
+    {
+        draw_row(upper, *first, kept, &mut met, &mut shown);
+        draw_row(lower, *second, below, &mut met, &mut shown);
     }
-    u64::from(turned)
+    if let ([row], [byte]) = (single, last) {
+        draw_row(row, *byte, &mut rest[0], &mut met, &mut shown);
+    }
+    (u64::from(met.count_ones()), u64::from(shown.count_ones()))
 }
 
-/// Whether a drawing takes the number below 0 or above all spots, where the spots
-/// that turn are added to it already. So each that goes dark counts twice. Nothing
-/// is written.
+/// Whether a drawing takes the number of lit spots below 0 or above all spots. Each
+/// that goes dark was turned too, so it counts twice. Nothing is written.
 #[inline(always)]
 fn leaves_range(lit: u64, rows: &[u64], pattern: &[u8], column: u8) -> bool {
-    let mut darkened = 0;
+    let (mut darkened, mut turned) = (0, 0);
     for (row, byte) in rows.iter().zip(pattern) {
-        darkened += ((row << column >> 56) as u8 & byte).count_ones();
+        let mask = mask_of(*byte, column);
+        darkened += u64::from((row & mask).count_ones());
+        turned += u64::from(mask.count_ones());
     }
-    lit.wrapping_sub(2 * u64::from(darkened)) > SPOTS
+    (lit + turned).wrapping_sub(2 * darkened) > SPOTS
 }
 
 #[inline(always)]
@@ -882,7 +885,8 @@ impl Engine<u64> for Tuned {
         let Some(lent) = fitting(lent) else {
             return LENGTH;
         };
-        let Some(mut work) = Work::read(lent.image, lent.places.len()) else {
+        let (mut v, mut stack) = Default::default();
+        let Some(mut work) = Work::read(lent.image, lent.places.len(), &mut v, &mut stack) else {
             return UNSOUND;
         };
         let refusal = work.step(lent.memory, lent.rows, lent.places, keys, random);
@@ -900,7 +904,8 @@ impl Engine<u64> for Tuned {
         let (Ok(image), Some(places)) = (image, places_of(lent.history)) else {
             return LENGTH;
         };
-        let Some(mut work) = Work::read(image, places.len()) else {
+        let (mut v, mut stack) = Default::default();
+        let Some(mut work) = Work::read(image, places.len(), &mut v, &mut stack) else {
             return UNSOUND;
         };
         work.tick(places);
@@ -913,7 +918,8 @@ impl Engine<u64> for Tuned {
         let Some(lent) = fitting(lent) else {
             return LENGTH;
         };
-        let Some(mut work) = Work::read(lent.image, lent.places.len()) else {
+        let (mut v, mut stack) = Default::default();
+        let Some(mut work) = Work::read(lent.image, lent.places.len(), &mut v, &mut stack) else {
             return UNSOUND;
         };
         let refusal = work.back(lent.memory, lent.rows, lent.places);
@@ -927,7 +933,8 @@ impl Engine<u64> for Tuned {
         let Some(lent) = fitting(lent) else {
             return LENGTH;
         };
-        let Some(mut work) = Work::read(lent.image, lent.places.len()) else {
+        let (mut v, mut stack) = Default::default();
+        let Some(mut work) = Work::read(lent.image, lent.places.len(), &mut v, &mut stack) else {
             return UNSOUND;
         };
         let refusal = work.forward(lent.memory, lent.rows, lent.places);
@@ -945,7 +952,8 @@ impl Engine<u64> for Tuned {
         let Some(lent) = fitting(lent).filter(|_| lists_fit(lists)) else {
             return LENGTH;
         };
-        let Some(mut work) = Work::read(lent.image, lent.places.len()) else {
+        let (mut v, mut stack) = Default::default();
+        let Some(mut work) = Work::read(lent.image, lent.places.len(), &mut v, &mut stack) else {
             return UNSOUND;
         };
         let mut accepted = 0;
@@ -977,7 +985,8 @@ impl Engine<u64> for Tuned {
         let Some(lent) = fitting(lent).filter(|_| fits) else {
             return LENGTH;
         };
-        let Some(mut work) = Work::read(lent.image, lent.places.len()) else {
+        let (mut v, mut stack) = Default::default();
+        let Some(mut work) = Work::read(lent.image, lent.places.len(), &mut v, &mut stack) else {
             return UNSOUND;
         };
         let mut refusal = 0;
@@ -1016,7 +1025,8 @@ impl Engine<u64> for Tuned {
         if told.list.len() < 2 * count {
             return LENGTH;
         }
-        let Some(mut work) = Work::read(image, count) else {
+        let (mut v, mut stack) = Default::default();
+        let Some(mut work) = Work::read(image, count, &mut v, &mut stack) else {
             return UNSOUND;
         };
         let mut row = 0;

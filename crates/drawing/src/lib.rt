@@ -10,7 +10,6 @@ ghost use Rattle.picture.specs.Sums.{between};
 ghost use Rattle.pattern.specs.Masks.{metAt, showsAt};
 ghost use Rattle.drawing.specs.Turned.{Turned};
 ghost use Rattle.drawing.specs.Turns.{Turns};
-use pattern::Met;
 use picture::Spots;
 
 fn least(a: usize, b: usize) -> usize
@@ -19,8 +18,14 @@ fn least(a: usize, b: usize) -> usize
     if a < b { a } else { b }
 }
 
-// At most eight rows of the pattern. Each row is kept, as its eight bytes, and turned over; what it had under the pattern is noted in a byte.
-// The bytes of all rows fit one number, and are counted at the end.
+// How many lit spots some rows of a pattern meet, and how many spots they show.
+struct Met {
+    dark: usize,
+    all: usize,
+}
+
+// At most eight rows of the pattern. Each row is kept, as its eight bytes, and turned over; the lit spots that it had under the pattern, and all
+// that the pattern shows in it, are gathered. Those of all rows fit one number each, and are counted at the end.
 fn eight(
     rows: &mut [u64],
     place: &mut [u8],
@@ -42,19 +47,22 @@ fn eight(
         × (r .all ≡ between (showsAt (now (pattern .entry)) column row) from to) ⌝ }
     ensures { λ r. ⌜ (r .dark ≤ 64) × (r .all ≤ 8 * (to - from)) ⌝ }
 {
-    let mut stood = 0;
-    let mut bits = 0;
+    let mut met = 0;
+    let mut shown = 0;
     let mut y = from;
     while y < to {
-        let p = picture::wide(pattern[y - row]);
+        let mask = pattern::mask_of(picture::wide(pattern[y - row]), column);
         let n = rows[y];
         memory::lay_eight(place, at + 8 * (y - from), n);
-        stood = (stood << 8) | pattern::under(n, column);
-        bits = (bits << 8) | p;
-        rows[y] = n ^ pattern::mask_of(p, column);
+        met = pattern::gather(met, n & mask);
+        shown = pattern::gather(shown, mask);
+        rows[y] = n ^ mask;
         y += 1;
     }
-    pattern::met_of(stood, bits, column)
+    Met {
+        dark: picture::ones_in(met),
+        all: picture::ones_in(shown),
+    }
 }
 
 // Draws the pattern with its upper left corner in that column and row, and says what that turned over. The rows as they were are laid into

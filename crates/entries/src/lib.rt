@@ -50,7 +50,7 @@ fn ticks_of(
     }
 }
 
-// One entry: its ticks, then its step.
+// One entry: its ticks, then its step. Most entries have no ticks, and then the state is not handed about for them.
 pub fn entry(
     c: Core,
     v: &mut [u8; 16],
@@ -69,8 +69,14 @@ pub fn entry(
         (world (whole c (now (v .entry)) (now (stack .entry))) trail (now (memory .entry)) (bytesOf (now (rows .entry)))
         (now (history .entry)))) r (now (v .exit)) (now (stack .exit)) (now (memory .exit)) (bytesOf (now (rows .exit))) (now (history .exit)) ⌝ }
 {
-    let ticked = ticks_of(c, v, stack, trail, history, ticks);
-    let core = ticked.core;
-    let t = ticked.trail;
+    let mut core = c;
+    let mut t = trail;
+    if 0 < ticks {
+        let ticked = ticks_of(c, v, stack, trail, history, ticks);
+        let ticked_core = ticked.core;
+        let ticked_trail = ticked.trail;
+        core = ticked_core;
+        t = ticked_trail;
+    }
     moves::step(core, v, stack, t, memory, rows, history, keys, random)
 }

@@ -3,7 +3,7 @@ use mathlib.Core.List.{List}
 use Prim.Native.Nat.{ℕ, _-_, _*_, _/_, _%_, _^_}
 use lib.ListN.{getD}
 use lib.Dec.{leb}
-use lib.Bits.{bitAnd}
+use lib.Bits.{bitAnd, bitOr}
 use lib.Count.{ones}
 use Rattle.rules.specs.Number.{pick}
 
@@ -15,17 +15,13 @@ maskOf p column = p * 2 ^ 56 / 2 ^ column
 unfoldable pub maskAt : List ℕ → ℕ → ℕ → ℕ → ℕ
 maskAt pattern column row y = pick (leb row y) (maskOf (getD pattern (y - row) 0) column) 0
 
--- the eight spots of a row from that column on, as a byte; past the last column they are dark
-abbrev pub underOf : ℕ → ℕ → ℕ
-underOf n column = n * 2 ^ column % 2 ^ 64 / 2 ^ 56
-
--- eight such bytes, with every spot that is not past the last column
-abbrev pub edgeOf : ℕ → ℕ
-edgeOf column = underOf (2 ^ 64 - 1) column * 0x0101_0101_0101_0101
-
 -- how many lit spots the pattern meets in row y, and how many spots it shows there
 abbrev pub metAt : List ℕ → ℕ → ℕ → List ℕ → ℕ → ℕ
 metAt pattern column row rows y = ones (bitAnd (getD rows y 0) (maskAt pattern column row y))
 
 abbrev pub showsAt : List ℕ → ℕ → ℕ → ℕ → ℕ
 showsAt pattern column row y = ones (maskAt pattern column row y)
+
+-- a number of 64 bits moved up by eight; those that pass its end come in at the bottom
+abbrev pub rolled : ℕ → ℕ
+rolled n = bitOr (n * 2 ^ 8 % 2 ^ 64) (n / 2 ^ 56)

@@ -12,6 +12,7 @@ ghost use Rattle.rules.specs.declared.Wait.the-variants.{Idle};
 ghost use Rattle.parts.specs.Whole.{whole};
 use parts::Core;
 use rules::Machine;
+use rules::Timers;
 use rules::Wait;
 
 // ---- numbers
@@ -102,11 +103,15 @@ pub fn light(c: Core, lit: u16) -> Core
     c
 }
 
-// A field that is an enum is not stored to, so the core is written anew.
+// A field that is an enum is not stored to, so the core is written anew. The timers are written one by one: copied as a whole they are a number
+// of two bytes to the compiler, which it puts together and takes apart at every step.
 fn with_wait(c: Core, w: Wait) -> Core
     ensures { λ r. ⌜ ((v stack : List ℕ) → whole r v stack ≡ withWait w (whole c v stack)) ⌝ }
 {
-    let timers = c.timers;
+    let timers = Timers {
+        delay: c.timers.delay,
+        tone: c.timers.tone,
+    };
     let edition = c.edition;
     Core {
         i: c.i,

@@ -1,2 +1,3 @@
--- Entries, one after the other.
+-- Entries: one after the other. Nothing: what a step adds that copies nothing.
 pub mod Entries
+pub mod Nothing

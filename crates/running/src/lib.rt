@@ -1,7 +1,7 @@
 // A run, entry by entry. The variables and the stack are two locals of the run, lent to each step, so a step copies neither.
 ghost use mathlib.Core.Path.{_≡_};
 ghost use mathlib.Core.Bool.{true};
-ghost use Prim.Native.Nat.{_*_, _≤_};
+ghost use Prim.Native.Nat.{_+_, _*_, _^_, _≤_, _<_};
 ghost use Rattle.rules.specs.World.{world};
 ghost use Rattle.rules.specs.Run.{runFrom, totalFrom, listsFit};
 ghost use Rattle.rules.specs.Run as runs;
@@ -38,6 +38,17 @@ fn ran(
         machine: parts::whole(c, v, stack),
         trail,
     }
+}
+
+// What a step adds to a sum. One that copies nothing adds nothing to either of the two, and most steps are such.
+fn added(sum: usize, more: usize, copied: usize) -> usize
+    requires { ⌜ (copied ≡ 0 → more ≡ 0) × (sum + more < 2 ^ 64) ⌝ }
+    ensures { λ r. ⌜ r ≡ sum + more ⌝ }
+{
+    if copied == 0 {
+        return sum;
+    }
+    sum + more
 }
 
 // A run of a world that passed the tests 9 and 10.
@@ -91,8 +102,8 @@ fn run_ready(
         let Outcome::Done = outcome else {
             return ran(i, dark, copied, outcome, c, v, stack, t);
         };
-        dark += moved.dark;
-        copied += moved.copied;
+        dark = added(dark, moved.dark, moved.copied);
+        copied = added(copied, moved.copied, moved.copied);
         i += 1;
     }
     ran(i, dark, copied, Outcome::Done, c, v, stack, t)

@@ -3,8 +3,9 @@
 //! bytes a second of the panel, beside copying as many bytes, and steps a second of
 //! the plain engine.
 //!
-//! Everything is measured in one run, in turns, so that whatever else the
-//! computer does meets all of them alike.
+//! Everything is measured in turns, and in several rounds over all programs. So
+//! what else the computer does, or another that shares its processor, meets all of
+//! them alike, and a busy second spoils no program's best.
 
 use std::fmt;
 use std::hint::black_box;
@@ -21,6 +22,7 @@ use harness::second::{
 };
 use harness::tuned::Tuned;
 
+const ROUNDS: usize = 8;
 const TURNS: usize = 25;
 const LISTS_A_TURN: usize = 10;
 const PANELS_A_TURN: usize = 20_000;
@@ -74,13 +76,21 @@ const PROGRAMS: [Program; 5] = [
 ];
 
 fn main() {
-    println!("Millions of steps a second: the best of {TURNS} turns, the median in brackets");
-    for history_length in HISTORIES {
+    println!(
+        "Millions of steps a second: the best of {ROUNDS} rounds of {TURNS} turns, the median in brackets"
+    );
+    let mut turns: [[Turns; PROGRAMS.len()]; HISTORIES.len()] = Default::default();
+    for _ in 0..ROUNDS {
+        for (history_length, turns) in HISTORIES.into_iter().zip(&mut turns) {
+            for (program, turns) in PROGRAMS.iter().zip(turns) {
+                measure(program, history_length, turns);
+            }
+        }
+    }
+    for (history_length, turns) in HISTORIES.into_iter().zip(turns) {
         println!("\nA history of {history_length} bytes");
-        let measured: Vec<(&str, Measured)> = PROGRAMS
-            .iter()
-            .map(|program| (program.name, measure(program, history_length)))
-            .collect();
+        let names = PROGRAMS.iter().map(|program| program.name);
+        let measured: Vec<(&str, Measured)> = names.zip(turns.map(Measured::of)).collect();
         print_runs(&measured);
         print_steps(&measured);
     }
@@ -182,6 +192,16 @@ impl fmt::Display for Speed {
     }
 }
 
+/// What each turn came to: a run and steps of either engine, and the floor.
+#[derive(Default)]
+struct Turns {
+    card_run: Vec<f64>,
+    tuned_run: Vec<f64>,
+    floor: Vec<f64>,
+    card_step: Vec<f64>,
+    tuned_step: Vec<f64>,
+}
+
 struct Measured {
     card_run: Speed,
     tuned_run: Speed,
@@ -190,26 +210,29 @@ struct Measured {
     tuned_step: Speed,
 }
 
-/// Takes all five in turns on one program.
-fn measure(program: &Program, history_length: usize) -> Measured {
+impl Measured {
+    fn of(turns: Turns) -> Measured {
+        Measured {
+            card_run: best_and_median(turns.card_run),
+            tuned_run: best_and_median(turns.tuned_run),
+            floor: best_and_median(turns.floor),
+            card_step: best_and_median(turns.card_step),
+            tuned_step: best_and_median(turns.tuned_step),
+        }
+    }
+}
+
+/// One round on one program: takes all five in turns.
+fn measure(program: &Program, history_length: usize, turns: &mut Turns) {
     let mut card = Desk::new(program, history_length, &Archive);
     let mut tuned = Desk::new(program, history_length, &Tuned);
     let mut cleared = vec![1; history_length];
-    let mut speeds: [Vec<f64>; 5] = Default::default();
     for _ in 0..TURNS {
-        speeds[0].push(speed(|| card.run()));
-        speeds[1].push(speed(|| tuned.run()));
-        speeds[2].push(speed(|| clear_places(&mut cleared)));
-        speeds[3].push(speed(|| card.steps()));
-        speeds[4].push(speed(|| tuned.steps()));
-    }
-    let [card_run, tuned_run, floor, card_step, tuned_step] = speeds.map(best_and_median);
-    Measured {
-        card_run,
-        tuned_run,
-        floor,
-        card_step,
-        tuned_step,
+        turns.card_run.push(speed(|| card.run()));
+        turns.tuned_run.push(speed(|| tuned.run()));
+        turns.floor.push(speed(|| clear_places(&mut cleared)));
+        turns.card_step.push(speed(|| card.steps()));
+        turns.tuned_step.push(speed(|| tuned.steps()));
     }
 }
 

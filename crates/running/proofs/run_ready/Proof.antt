@@ -1,5 +1,5 @@
 -- The invariant: after i entries, what is still to be done from here gives the same answer.
-use mathlib.Core.Path.{_≡_, refl, _∙_}
+use mathlib.Core.Path.{_≡_, refl, sym, _∙_}
 use Prim.Native.Nat.{_-_}
 use native.Mathlib.Omega.{arith}
 use borrow.Author.Needs.{needs}
@@ -8,6 +8,7 @@ use Rattle.rules.specs.World.{world}
 use Rattle.rules.specs.Rows.{bytesOf}
 use Rattle.parts.specs.Whole.{whole}
 use Rattle.running.proofs.Entries.{Running, lists-same, started, ended, ended-totals, went-on, stopped, stopped-totals}
+use Rattle.running.proofs.Nothing.{nothing-added}
 use Rattle.running.proofs.run_ready.Statement.{statement}
 use Rattle.running.proofs.run_ready.Tie as tie
 
@@ -54,13 +55,26 @@ returns c =
       (totals .0, inv .spots .few, totals .1, inv .bytes .few),
     )
 
+-- both sums stay far below what a number holds
+added-requires : tie.Need-added-requires Inv-loop μ-loop
+added-requires c κs =
+    let inv = c .before .before .before .before .before .before .before .before .before .before .before .before .before .before .before .before .before .before .before .before .loop .inv .3 in
+    let entry = c .before .before .before .before .before .before .before .before .before .before .entry .ensures in
+    (λ z. entry .dark ∙ nothing-added _ (sym (entry .copied) ∙ z), omega (arith, inv .spots .few, inv .inside, inv .lists .few, entry .dark-few))
+
+added-requires-2 : tie.Need-added-requires-2 Inv-loop μ-loop
+added-requires-2 c κs =
+    let inv = c .before .before .before .before .before .before .before .before .before .before .before .before .before .before .before .before .before .before .before .before .before .loop .inv .3 in
+    let entry = c .before .before .before .before .before .before .before .before .before .before .before .entry .ensures in
+    (λ z. z, omega (arith, inv .bytes .few, inv .inside, inv .lists .few, entry .copied-few))
+
 loop-again : tie.Need-loop-again Inv-loop μ-loop
 loop-again c =
     let entry = c .before .before .before .before .before .before .before .before .before .before .before .before .entry .ensures in (
       memory-length (c .before .before .before .before .before .before .before .before .before .before .before .before),
       rows-length (c .before .before .before .before .before .before .before .before .before .before .before .before),
       history-length (c .before .before .before .before .before .before .before .before .before .before .before .before),
-      went-on _ _ _ _ _ _ _ _ (c .before .before .before .before .before .before .before .before .before .before .before .before .before .before .before .before .before .before .before .before .before .before .loop .inv .3) (c .before .before .before .before .before .before .before .before .before .before .before .before .before .before .before .before .before .before .before .before .before .loop-test .taken) _ _ _ _ _ _ _ (rw (c .before .before .enum-told .given .1) at (entry .gives)) (entry .dark) (entry .dark-few) (entry .copied) (entry .copied-few),
+      rw (c .before .added .ensures, c .added2 .ensures) (went-on _ _ _ _ _ _ _ _ (c .before .before .before .before .before .before .before .before .before .before .before .before .before .before .before .before .before .before .before .before .before .before .loop .inv .3) (c .before .before .before .before .before .before .before .before .before .before .before .before .before .before .before .before .before .before .before .before .before .loop-test .taken) _ _ _ _ _ _ _ (rw (c .before .before .enum-told .given .1) at (entry .gives)) (entry .dark) (entry .dark-few) (entry .copied) (entry .copied-few)),
     )
 
 returns-2 : tie.Need-returns-2 Inv-loop μ-loop
@@ -75,7 +89,6 @@ run-ready-spec =
     tie.close (tie.spec Inv-loop μ-loop
     (λ c κs. tt) loop-holds (λ c. omega arith) (λ c. omega arith) shared-slice-read-entry-2 shared-slice-read-entry-3 (λ c κs. c .before .before .before .before .before .before .before .before .before .loop .inv .3 .ready)
     (search needs) (search needs) (λ c κs. tt) (λ c. memory-length (c .before .before .before .before .before .before .before .before .before .before .before)) (λ c. rows-length (c .before .before .before .before .before .before .before .before .before .before .before)) (λ c. history-length (c .before .before .before .before .before .before .before .before .before .before .before)) returns
-    (λ c. let inv = c .before .before .before .before .before .before .before .before .before .before .before .before .before .before .before .before .before .before .before .before .before .loop .inv .3 in omega (arith, inv .spots .few, inv .inside, inv .lists .few, c .before .before .before .before .before .before .before .before .before .before .before .entry .ensures .dark-few))
-    (λ c. let inv = c .before .before .before .before .before .before .before .before .before .before .before .before .before .before .before .before .before .before .before .before .before .before .loop .inv .3 in omega (arith, inv .bytes .few, inv .inside, inv .lists .few, c .before .before .before .before .before .before .before .before .before .before .before .before .entry .ensures .copied-few))
+    added-requires added-requires-2
     (λ c. let inv = c .before .before .before .before .before .before .before .before .before .before .before .before .before .before .before .before .before .before .before .before .before .before .loop .inv .3 in omega (arith, inv .inside, inv .lists .few)) (λ c. omega (arith, c .before .before .before .before .before .before .before .before .before .before .before .before .before .before .before .before .before .before .before .before .before .loop-test .taken)) loop-again
     (λ c κs. tt) (λ c. c .before .before .loop .inv .0) (λ c. c .before .before .loop .inv .1) (λ c. c .before .before .loop .inv .2) returns-2)
