@@ -1,7 +1,7 @@
 // The parts of a record as bytes and numbers, before they are laid. The specs of `rules`, Record.antt, say what a record is.
 ghost use mathlib.Core.Path.{_≡_};
 ghost use mathlib.Core.List.{[], _∷_, _++_};
-ghost use Prim.Native.Nat.{_-_, _%_, _≤_, _<_};
+ghost use Prim.Native.Nat.{_-_, _≤_, _<_};
 ghost use lib.Dec.{eqb};
 ghost use lib.ListN.{getD};
 ghost use Rattle.rules.specs.Number.{pick, word};
@@ -81,31 +81,26 @@ pub fn first_fields(c: Core, last: u16) -> u64
         + delay
 }
 
-// And the last eight, of which the first two are those that the other number ends with.
-pub fn last_fields(c: Core, last: u16, change: Change) -> u64
-    ensures { λ r. ⌜ eightOf r ≡ (last % 256 ∷ c .timers .delay ∷ c .timers .tone ∷ heldByte (c .wait) ∷ []) ++ word (start change) ++ word (count change) ⌝ }
-{
-    let wait = c.wait;
-    let low = wide(memory::low(last));
-    let delay = wide(c.timers.delay);
-    let tone = wide(c.timers.tone);
-    let held = wide(parts::held_byte(wait));
-    let start = wide_word(start_of(change));
-    let count = wide_word(count_of(change));
-    low * 0x100_0000_0000_0000
-        + delay * 0x1_0000_0000_0000
-        + tone * 0x100_0000_0000
-        + held * 0x1_0000_0000
-        + start * 0x1_0000
-        + count
-}
-
-// Of those the two between the delay timer and the start, for a record whose start and count are zeros.
+// The two after them.
 pub fn tone_and_held(c: Core) -> [u8; 2]
     ensures { λ r. ⌜ r ≡ c .timers .tone ∷ heldByte (c .wait) ∷ [] ⌝ }
 {
     let wait = c.wait;
     [c.timers.tone, parts::held_byte(wait)]
+}
+
+// And the last four, where the change lies. For a change of the state alone they are zeros.
+pub fn start_and_count(change: Change) -> [u8; 4]
+    ensures { λ r. ⌜ r ≡ word (start change) ++ word (count change) ⌝ }
+{
+    let start = start_of(change);
+    let count = count_of(change);
+    [
+        memory::high(start),
+        memory::low(start),
+        memory::high(count),
+        memory::low(count),
+    ]
 }
 
 // What stands last: the inputs of a step and a 1, or four zeros for a tick.

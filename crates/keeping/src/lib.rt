@@ -48,26 +48,26 @@ pub const AT_RANDOM: usize = 290;
 
 pub const AT_KIND: usize = 291;
 
-// What lies between the variables and the old bytes. Byte by byte it would take as many stores as all the zeros.
-fn lay_fields(place: &mut [u8], c: Core, stack: &[u16; Machine::STACK], change: Change)
-    requires { ⌜ (length (now place) ≡ placeSize) × (c .depth ≤ stackSize) ⌝ }
-    ensures { λ _. ⌜ ((v : List ℕ) → now (place .exit) ≡ over (now (place .entry)) atI (fields (whole c v (now (stack .entry))) change) 14) ⌝ }
-{
-    let last = fields::last_return(c.depth, stack);
-    memory::lay_eight(place, AT_I, fields::first_fields(c, last));
-    memory::lay_eight(place, AT_OLD - 8, fields::last_fields(c, last, change));
-}
-
-// The same where nothing changes but the state: all but the start and the count, which are zeros.
+// What lies between the variables and the old bytes, but for the last four. Byte by byte it would take nearly as many stores as all the zeros.
 fn lay_state(place: &mut [u8], c: Core, stack: &[u16; Machine::STACK])
     requires { ⌜ (length (now place) ≡ placeSize) × (c .depth ≤ stackSize) ⌝ }
-    ensures { λ _. ⌜ ((v : List ℕ) → now (place .exit) ≡ over (now (place .entry)) atI
-        (take (atStart - atI) (fields (whole c v (now (stack .entry))) Nothing)) (atStart - atI)) ⌝ }
+    ensures { λ _. ⌜ ((v : List ℕ) (change : Change) → now (place .exit) ≡ over (now (place .entry)) atI
+        (take (atStart - atI) (fields (whole c v (now (stack .entry))) change)) (atStart - atI)) ⌝ }
 {
     let last = fields::last_return(c.depth, stack);
     let bytes = fields::tone_and_held(c);
     memory::lay_eight(place, AT_I, fields::first_fields(c, last));
     memory::lay(place, AT_TONE, &bytes);
+}
+
+// All of it: the last four are the start and the count of the change.
+fn lay_fields(place: &mut [u8], c: Core, stack: &[u16; Machine::STACK], change: Change)
+    requires { ⌜ (length (now place) ≡ placeSize) × (c .depth ≤ stackSize) ⌝ }
+    ensures { λ _. ⌜ ((v : List ℕ) → now (place .exit) ≡ over (now (place .entry)) atI (fields (whole c v (now (stack .entry))) change) 14) ⌝ }
+{
+    lay_state(place, c, stack);
+    let bytes = fields::start_and_count(change);
+    memory::lay(place, AT_START, &bytes);
 }
 
 // The variables. They come by value, so that they can't lie where the record is written, and sixteen bytes are copied at once.

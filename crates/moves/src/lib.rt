@@ -4,9 +4,9 @@ ghost use Rattle.rules.specs.Rows.{bytesOf};
 ghost use Rattle.rules.proofs.Ready.{Ready};
 ghost use Rattle.parts.specs.Whole.{whole};
 ghost use Rattle.ways.specs.Steps.{Made};
+use decode::Way;
 use parts::Core;
 use rules::Machine;
-use rules::Op;
 use rules::Outcome;
 use rules::Refusal;
 use rules::Trail;
@@ -34,10 +34,13 @@ pub fn step(
         return ways::refused(Outcome::Refused(Refusal::PcPastEnd), c, trail);
     }
     let edition = c.edition;
-    let op = decode::decode(edition, memory[at], memory[at + 1]);
-    if let Op::Plain(simple) = op {
-        return ways::plain_step(
-            simple,
+    let hi = memory[at];
+    let lo = memory[at + 1];
+    let way = decode::way_of(edition, hi, lo);
+    match way {
+        Way::Plain => ways::plain_step(
+            hi,
+            lo,
             c,
             v,
             stack,
@@ -47,16 +50,10 @@ pub fn step(
             history,
             keys,
             random,
-        );
-    }
-    if transfers::is_quiet(op) {
-        return ways::quiet_step(op, c, v, stack, trail, memory, rows, history, keys, random);
-    }
-    if let Op::Draw(x, y, n) = op {
-        return drawing_way::drawing_step(
-            x,
-            y,
-            n,
+        ),
+        Way::Quiet => ways::quiet_step(
+            hi,
+            lo,
             c,
             v,
             stack,
@@ -66,7 +63,32 @@ pub fn step(
             history,
             keys,
             random,
-        );
+        ),
+        Way::Drawing => drawing_way::drawing_step(
+            hi % 16,
+            lo / 16,
+            lo % 16,
+            c,
+            v,
+            stack,
+            trail,
+            memory,
+            rows,
+            history,
+            keys,
+            random,
+        ),
+        Way::Other => ways::other_step(
+            decode::other_of(hi, lo),
+            c,
+            v,
+            stack,
+            trail,
+            memory,
+            rows,
+            history,
+            keys,
+            random,
+        ),
     }
-    ways::other_step(op, c, v, stack, trail, memory, rows, history, keys, random)
 }

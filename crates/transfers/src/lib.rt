@@ -14,7 +14,6 @@ ghost use Rattle.rules.specs.Step.{rowsChange, rowBytes, litAfter, litRefusal, 
 ghost use Rattle.rules.specs.Rows.{bytesOf};
 ghost use Rattle.parts.specs.Whole.{whole};
 ghost use Rattle.transfers.specs.Within.{Within};
-ghost use Rattle.transfers.specs.Quiet.{quiet};
 use parts::Core;
 use picture::Spots;
 use rules::Change;
@@ -74,25 +73,6 @@ pub fn change_of(op: Op, c: Core, v: &[u8; 16]) -> Change
         Op::Fetch(_) => Change::Nothing,
         Op::Unlisted => Change::Nothing,
         Op::MachineCode => Change::Nothing,
-    }
-}
-
-// Whether it is quiet: memory and the picture stay, so its record keeps no old bytes.
-pub fn is_quiet(op: Op) -> bool
-    ensures { λ r. ⌜ r ≡ quiet op ⌝ }
-{
-    match op {
-        Op::Plain(_) => false,
-        Op::AwaitKey(_) => true,
-        Op::Call(_) => true,
-        Op::Return => true,
-        Op::Clear => false,
-        Op::Draw(_, _, n) => n == 0,
-        Op::Decimal(_) => false,
-        Op::Store(_) => false,
-        Op::Fetch(_) => true,
-        Op::Unlisted => false,
-        Op::MachineCode => false,
     }
 }
 

@@ -1,3 +1,4 @@
 -- What a step's parts ask, and what they make together.
+pub mod ByWay
 pub mod Keep
 pub mod OneStep

@@ -169,6 +169,10 @@ pub back : (keys random : ℕ) (c : Core) (v stack : List ℕ) (t : Trail) (mem 
 back keys random c v stack t mem pic his o gives dark copied =
     record { gives = gives; dark = sym dark; dark-few = omega arith; copied = sym copied; copied-few = omega arith }
 
+-- the instruction that was reached, by another name
+pub reached-as : {op same : Op} {w : World} → op ≡ same → Reached op w → Reached same w
+reached-as e r = record { ready = r .ready; near = r .near; there = sym e ∙ r .there }
+
 module _ (w : World) (op : Op) (r : Reached op w) where
   -- and so does one whose instruction is refused
   pub reached-refused : (keys random : ℕ) (f : Refusal) → number (Refused f) ≡ verdict w (r .ready) op

@@ -1,12 +1,12 @@
 // What a step of a tested world promises, and three of its four ways: of an instruction on the state alone, of a quiet one, and of any other
 // that is no drawing. Each is judged if it can be refused, then its record is kept, then it acts.
 ghost use mathlib.Core.Path.{_≡_};
-ghost use mathlib.Core.Bool.{true};
 ghost use Rattle.rules.specs.World.{world};
 ghost use Rattle.rules.specs.Rows.{bytesOf};
 ghost use Rattle.parts.specs.Whole.{whole};
-ghost use Rattle.rules.specs.declared.Op.the-variants.{Plain};
-ghost use Rattle.transfers.specs.Quiet.{quiet};
+ghost use Rattle.rules.specs.Instruction.{decode};
+ghost use Rattle.decode.specs.declared.Way.the-variants as way;
+ghost use Rattle.decode.specs.Ways.{wayOf};
 ghost use Rattle.transfers.specs.Other.{Other};
 ghost use Rattle.ways.specs.Steps.{Reached, Made};
 use parts::Core;
@@ -14,7 +14,6 @@ use rules::Action;
 use rules::Machine;
 use rules::Op;
 use rules::Outcome;
-use rules::Simple;
 use rules::Trail;
 
 // What a step hands back beside what is lent: what came of it, the core, the history's numbers, the number of lit spots that it darkened,
@@ -40,9 +39,11 @@ pub fn refused(outcome: Outcome, c: Core, trail: Trail) -> Stepped
     }
 }
 
-// An instruction that acts on the state alone is never refused, and its record keeps no old bytes.
+// An instruction that acts on the state alone is never refused, and its record keeps no old bytes. Which one the two bytes are is found after
+// the record: so only they are held over it, and what is found leads straight to what it does.
 pub fn plain_step(
-    simple: Simple,
+    hi: u8,
+    lo: u8,
     c: Core,
     v: &mut [u8; 16],
     stack: &[u16; Machine::STACK],
@@ -53,7 +54,8 @@ pub fn plain_step(
     keys: u16,
     random: u8,
 ) -> Stepped
-    requires { ⌜ Reached (Plain simple) (world (whole c (now v) (now stack)) trail (now memory) (bytesOf (now rows)) (now history)) ⌝ }
+    requires { ⌜ (wayOf (decode (c .edition) hi lo) ≡ way.Plain) × Reached (decode (c .edition) hi lo)
+        (world (whole c (now v) (now stack)) trail (now memory) (bytesOf (now rows)) (now history)) ⌝ }
     ensures { λ r. ⌜ Made keys random
         (world (whole c (now (v .entry)) (now (stack .entry))) trail (now (memory .entry)) (bytesOf (now (rows .entry)))
         (now (history .entry))) r (now (v .exit)) (now (stack .entry)) (now (memory .entry)) (bytesOf (now (rows .entry))) (now (history .exit)) ⌝ }
@@ -61,6 +63,7 @@ pub fn plain_step(
     let places = fitting::places(history);
     let next = trail.next;
     keeping::keep_state(history, next, c, v, stack, Action::Step(keys, random));
+    let simple = decode::simple_of(hi, lo);
     let core = registers::idle(instructions::simple(simple, c, v, keys, random));
     Stepped {
         outcome: Outcome::Done,
@@ -71,9 +74,10 @@ pub fn plain_step(
     }
 }
 
-// A quiet instruction is judged, and its record keeps no old bytes either.
+// A quiet instruction is judged, and its record keeps no old bytes either. It is found anew after the record, for the same reason.
 pub fn quiet_step(
-    op: Op,
+    hi: u8,
+    lo: u8,
     c: Core,
     v: &mut [u8; 16],
     stack: &mut [u16; Machine::STACK],
@@ -84,11 +88,13 @@ pub fn quiet_step(
     keys: u16,
     random: u8,
 ) -> Stepped
-    requires { ⌜ (quiet op ≡ true) × Reached op (world (whole c (now v) (now stack)) trail (now memory) (bytesOf (now rows)) (now history)) ⌝ }
+    requires { ⌜ (wayOf (decode (c .edition) hi lo) ≡ way.Quiet) × Reached (decode (c .edition) hi lo)
+        (world (whole c (now v) (now stack)) trail (now memory) (bytesOf (now rows)) (now history)) ⌝ }
     ensures { λ r. ⌜ Made keys random
         (world (whole c (now (v .entry)) (now (stack .entry))) trail (now (memory .entry)) (bytesOf (now (rows .entry)))
         (now (history .entry))) r (now (v .exit)) (now (stack .exit)) (now (memory .entry)) (bytesOf (now (rows .entry))) (now (history .exit)) ⌝ }
 {
+    let op = decode::quiet_of(hi, lo);
     let outcome = verdict::judged_quiet(op, c);
     let Outcome::Done = outcome else {
         return refused(outcome, c, trail);
@@ -96,6 +102,7 @@ pub fn quiet_step(
     let places = fitting::places(history);
     let next = trail.next;
     keeping::keep_state(history, next, c, v, stack, Action::Step(keys, random));
+    let op = decode::quiet_of(hi, lo);
     let core = act::act_quiet(op, c, v, stack, memory, keys);
     Stepped {
         outcome: Outcome::Done,

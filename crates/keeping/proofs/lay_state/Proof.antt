@@ -14,7 +14,7 @@ use Rattle.keeping.proofs.lay_state.Statement.{statement}
 use Rattle.keeping.proofs.lay_state.Tie as tie
 
 returns : tie.Need-returns
-returns c v =
+returns c v change =
     let second = c .before .before in
     let first = second .before .before .before .before .before in
     let made = first .before in

@@ -25,7 +25,7 @@ returns c =
     let m = whole (start .args .c) v (start .args .stack .now) in
     all-laid (start .args .place .now) (mark Nothing) (take 10 (fields m Nothing)) v (inputs a) 10 (omega arith)
     (first .lay .ensures) (made .before .mark-of .ensures) refl (omega arith)
-    (second .lay-state .ensures v) refl (omega arith)
+    (second .lay-state .ensures v Nothing) refl (omega arith)
     (clear .clear-from .ensures) (last .lay2 .ensures) (made .inputs-of .ensures) (inputs-four a) (variables .lay-variables .ensures)
     ∙ state-blank m a
 

@@ -1,21 +1,17 @@
--- Too far, or one of the four ways: the way is taken by which instruction it is.
+-- Too far, or one of the four ways: the one that the instruction takes.
 use mathlib.Core.Path.{_≡_, refl, _∙_, sym}
-use mathlib.Core.Bool.{false, true≢false}
-use mathlib.Core.List.{[], _∷_}
 use native.Mathlib.Omega.{arith}
-use denote.Enum.Declared.{tagOf}
-use types.Run.{OneOf, miss}
-use Rattle.rules.proofs.Op.{the-type}
 use Rattle.rules.specs.declared.Op.{Op}
-use Rattle.rules.specs.declared.Op.the-variants.{Plain, AwaitKey, Call, Return, Clear, Draw, Decimal, Store, Fetch}
-use Rattle.rules.specs.declared.Op.the-variants.{Unlisted, MachineCode}
-use Rattle.rules.specs.World.{World, world}
+use Rattle.rules.specs.World.{World, world, boardOf}
+use Rattle.rules.specs.Call.{opAt}
 use Rattle.rules.specs.Rows.{bytesOf}
 use Rattle.parts.specs.Whole.{whole}
-use Rattle.transfers.specs.Quiet.{quiet}
-use Rattle.transfers.specs.Other.{Other}
+use Rattle.decode.specs.declared.Way.the-variants as way
+use Rattle.decode.specs.Ways.{wayOf}
+use Rattle.decode.proofs.Cases.{draws}
 use Rattle.ways.specs.Steps.{Reached}
-use Rattle.ways.proofs.OneStep.{far, far-dark, far-copied, back}
+use Rattle.ways.proofs.ByWay.{is-other}
+use Rattle.ways.proofs.OneStep.{far, far-dark, far-copied, back, reached-as}
 use Rattle.moves.proofs.step.Statement.{statement}
 use Rattle.moves.proofs.step.Tie as tie
 
@@ -37,58 +33,48 @@ returns c =
     (back (a .keys) (a .random) (a .c) (a .v .now) (a .stack .now) (a .trail) (a .memory .now) (bytesOf (a .rows .now)) (a .history .now) _
     (far w (s .pre) past _ _) (far-dark w (s .pre) past) (far-copied w (s .pre) past))
 
--- the instruction is known
-reached : (c : tie.After-decode) (op : Op) → c .decode .result ≡ op → let s = c .before .before .before .before .before .before .before .before .before in Reached op (given s)
-reached c op is =
+-- the instruction that the two bytes are
+abbrev op : tie.After-way-of → Op
+op c = opAt (boardOf (given (c .before .before .before .before .before .before .before .before .before)))
+
+reached : (c : tie.After-way-of) → Reached (op c) (given (c .before .before .before .before .before .before .before .before .before))
+reached c =
     let near = c .before .before .before in
     let s = near .before .before .before .before .before .before in
-    record { ready = s .pre; near = near .if1 .left; there = sym is ∙ c .decode .ensures }
+    record { ready = s .pre; near = near .if1 .left; there = refl }
 
 plain-step-requires : tie.Need-plain-step-requires
 plain-step-requires c κs =
-    let known = c .before .before .before .before .before .before in
-    reached (known .before .before) _ (known .op .given .1)
+    let told = c .before .before .before .before .before in
+    let asked = told .before .before in
+    (sym (asked .way-of .ensures) ∙ told .enum-told .given .1, reached asked)
 
 quiet-step-requires : tie.Need-quiet-step-requires
 quiet-step-requires c κs =
-    let then = c .before .before .before .before .before in
-    let asked = then .before in
-    let decoded = asked .before .before in
-    (sym (asked .is-quiet .ensures) ∙ then .if2 .taken, reached decoded (decoded .decode .result) refl)
+    let told = c .before .before .before .before .before in
+    let asked = told .before .before in
+    (sym (asked .way-of .ensures) ∙ told .enum-told2 .given .1, reached asked)
 
 drawing-step-requires : tie.Need-drawing-step-requires
 drawing-step-requires c κs =
-    let known = c .before .before .before .before .before .before in
-    reached (known .before .before .before .before .before) _ (known .op2 .given .1)
-
--- none of the three
-other : (op : Op) → OneOf (1 ∷ 2 ∷ 3 ∷ 4 ∷ 5 ∷ 6 ∷ 7 ∷ 8 ∷ 9 ∷ 10 ∷ []) (tagOf the-type op) → quiet op ≡ false
-    → OneOf (0 ∷ 1 ∷ 2 ∷ 3 ∷ 4 ∷ 6 ∷ 7 ∷ 8 ∷ 9 ∷ 10 ∷ []) (tagOf the-type op) → Other op
-other (Plain s) p q d = absurd (miss (1 ∷ 2 ∷ 3 ∷ 4 ∷ 5 ∷ 6 ∷ 7 ∷ 8 ∷ 9 ∷ 10 ∷ []) 0 tt p)
-other (AwaitKey x) p q d = absurd (true≢false q)
-other (Call a) p q d = absurd (true≢false q)
-other Return p q d = absurd (true≢false q)
-other Clear p q d = tt
-other (Draw x y n) p q d = absurd (miss (0 ∷ 1 ∷ 2 ∷ 3 ∷ 4 ∷ 6 ∷ 7 ∷ 8 ∷ 9 ∷ 10 ∷ []) 5 tt d)
-other (Decimal x) p q d = tt
-other (Store x) p q d = tt
-other (Fetch x) p q d = absurd (true≢false q)
-other Unlisted p q d = tt
-other MachineCode p q d = tt
+    let told = c .before .before .before .before .before in
+    let asked = told .before .before in
+    reached-as (draws _ _ _ (sym (asked .way-of .ensures) ∙ told .enum-told3 .given .1)) (reached asked)
 
 other-step-requires : tie.Need-other-step-requires
 other-step-requires c κs =
-    let left = c .before .before .before .before .before in
-    let asked = left .before .before in
-    let decoded = asked .before .before in (
-      other (decoded .decode .result) (asked .before .match .keys2) (sym (asked .is-quiet .ensures) ∙ left .before .if2 .left) (left .match2 .keys2),
-      reached decoded (decoded .decode .result) refl,
-    )
+    let known = c .before .before .before .before .before in
+    let told = known .before in
+    let asked = told .before .before in
+    let other : wayOf (op asked) ≡ way.Other = sym (asked .way-of .ensures) ∙ told .enum-told4 .given .1 in
+    let same = known .other-of .ensures _ other in
+    (rw same at (is-other (op asked) other), reached-as same (reached asked))
 
 pub step-spec : {M : Type 1} → statement M
 step-spec =
-    tie.close (tie.spec (λ c. omega arith) (λ c. omega arith) sub-if1 (λ c. omega arith) returns (λ c. omega arith) (λ c. omega arith) (λ c. omega arith) (λ c. omega arith) (λ c. omega arith)
-    plain-step-requires (λ c. omega arith) (λ c. omega arith) (λ c. omega arith) (λ c. c .before .before .plain-step .ensures)
-    (λ c. omega arith) quiet-step-requires (λ c. omega arith) (λ c. omega arith) (λ c. omega arith) (λ c. c .before .before .quiet-step .ensures)
-    (λ c. omega arith) drawing-step-requires (λ c. omega arith) (λ c. omega arith) (λ c. omega arith) (λ c. c .before .before .before .before .drawing-step .ensures)
-    other-step-requires (λ c. omega arith) (λ c. omega arith) (λ c. omega arith) (λ c. c .before .before .before .before .before .before .other-step .ensures))
+    tie.close (tie.spec (λ c. omega arith) (λ c. omega arith) sub-if1 (λ c. omega arith) returns (λ c. omega arith) (λ c. omega arith) (λ c. omega arith) (λ c κs. tt)
+    (λ c. omega arith) plain-step-requires (λ c. omega arith) quiet-step-requires (λ c. omega arith) drawing-step-requires (λ c. omega arith) (λ c κs. tt) other-step-requires
+    (λ c. omega arith) (λ c. omega arith) (λ c. omega arith) (λ c. c .before .before .plain-step .ensures)
+    (λ c. omega arith) (λ c. omega arith) (λ c. omega arith) (λ c. c .before .before .quiet-step .ensures)
+    (λ c. omega arith) (λ c. omega arith) (λ c. omega arith) (λ c. c .before .before .before .before .drawing-step .ensures)
+    (λ c. omega arith) (λ c. omega arith) (λ c. omega arith) (λ c. c .before .before .before .before .before .before .other-step .ensures))

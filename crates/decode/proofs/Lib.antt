@@ -1,0 +1,2 @@
+-- What is proved here besides the functions.
+pub mod Cases

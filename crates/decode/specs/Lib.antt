@@ -1,0 +1,2 @@
+-- Which way an instruction takes through a step.
+pub mod Ways
