@@ -1,6 +1,5 @@
 -- What the judgement leaves of a quiet instruction: it is not refused, beside a memory of the right size.
 use mathlib.Core.Path.{_≡_}
-use mathlib.Core.Bool.{true}
 use mathlib.Core.List.{List}
 use Prim.Native.Nat.{ℕ, _-_, _≤_}
 use lib.ListN.{length}
@@ -8,10 +7,11 @@ use Rattle.rules.specs.declared.Machine.{Machine}
 use Rattle.rules.specs.declared.Op.{Op}
 use Rattle.rules.specs.State.{memorySize, stackSize}
 use Rattle.rules.specs.Step.{refusalOf}
-use Rattle.transfers.specs.Quiet.{quiet}
+use Rattle.decode.specs.declared.Way.the-variants as way
+use Rattle.decode.specs.Ways.{wayOf}
 
 pub record Able (op : Op) (m : Machine) (mem : List ℕ) : Type 0 where
-  pub quiet-op : quiet op ≡ true
+  pub quiet : wayOf op ≡ way.Quiet
   pub end : m .end ≤ memorySize
   pub near : m .pc ≤ memorySize - 2
   pub shallow : m .depth ≤ stackSize

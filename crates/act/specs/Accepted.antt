@@ -8,11 +8,12 @@ use Rattle.rules.specs.declared.Machine.{Machine}
 use Rattle.rules.specs.declared.Op.{Op}
 use Rattle.rules.specs.State.{memorySize}
 use Rattle.rules.specs.Rows.{bytesOf}
-use Rattle.transfers.specs.Other.{Other}
+use Rattle.decode.specs.declared.Way.the-variants as way
+use Rattle.decode.specs.Ways.{wayOf}
 use Rattle.rules.specs.Step.{refusalOf, litRefusal, pictureAfter}
 
 pub record Accepted (op : Op) (m : Machine) (mem picture : List ℕ) : Type 0 where
-  pub other : Other op
+  pub other : wayOf op ≡ way.Other
   pub end : m .end ≤ memorySize
   pub near : m .pc ≤ memorySize - 2
   pub allowed : refusalOf op m ≡ 0

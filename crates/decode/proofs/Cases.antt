@@ -11,9 +11,10 @@ use Rattle.rules.specs.declared.Op.{Op}
 use Rattle.rules.specs.declared.Op.the-variants.{Plain, AwaitKey, Return, Clear, Draw, Decimal, Store, Fetch}
 use Rattle.rules.specs.declared.Op.the-variants.{Unlisted, MachineCode}
 use Rattle.rules.specs.declared.Simple.{Simple}
+use Rattle.rules.specs.declared.Simple.the-variants.{FromDelay, ToDelay, ToTone, AddIndex, Digit}
 use Rattle.rules.specs.Number.{pick, isOne}
 use Rattle.rules.specs.Instruction.{zeroOp, inSecond, sumOp, keyOp, otherOp, opOf, decode}
-use Rattle.rules.proofs.Choices.{choice}
+use Rattle.rules.proofs.Choices.{choice, by-test}
 use Rattle.decode.specs.declared.Way.{Way}
 use Rattle.decode.specs.declared.Way.the-variants as way
 use Rattle.decode.specs.Ways.{wayOf, listedDigits, plainDigits}
@@ -53,6 +54,15 @@ On w P op = wayOf op ≡ w → P op
 
 pub elsewhere : {v w : Way} {A : Type 0} → eqb (order v) (order w) ≡ false → v ≡ w → A
 elsewhere {v} {w} ne e = absurd (eqb-false (order v) (order w) ne (ap order e))
+
+-- a drawing is quiet only where it has no rows, and takes no other way
+pub no-rows : (none : Bool) → pick none way.Quiet way.Drawing ≡ way.Quiet → none ≡ true
+no-rows true e = refl
+no-rows false e = elsewhere refl e
+
+pub drawing-apart : (none : Bool) {A : Type 0} → pick none way.Quiet way.Drawing ≡ way.Other → A
+drawing-apart true e = elsewhere refl e
+drawing-apart false e = elsewhere refl e
 
 -- ---- 8XYN
 
@@ -125,10 +135,14 @@ module _ (w : Way) (P : Op → Type 0) where
   pub on-key : (x kk : ℕ) → ((s : Simple) → Q (Plain s)) → Q Unlisted → Q (keyOp x kk)
   on-key x kk p u = choice Q (eqb kk 0x9E) (p _) (choice Q (eqb kk 0xA1) (p _) u)
 
-  pub on-other : (x kk : ℕ) → ((s : Simple) → Q (Plain s)) → Q (AwaitKey x) → Q (Decimal x) → Q (Store x) → Q (Fetch x) → Q Unlisted → Q (otherOp x kk)
-  on-other x kk p await decimal store fetch u =
-      choice Q (eqb kk 0x07) (p _) (choice Q (eqb kk 0x0A) await (choice Q (eqb kk 0x15) (p _) (choice Q (eqb kk 0x18) (p _) (choice Q (eqb kk 0x1E) (p _)
-      (choice Q (eqb kk 0x29) (p _) (choice Q (eqb kk 0x33) decimal (choice Q (eqb kk 0x55) store (choice Q (eqb kk 0x65) fetch u))))))))
+  -- each where its number is the second byte
+  pub on-other : (x kk : ℕ) → (kk ≡ 0x07 → Q (Plain (FromDelay x))) → (kk ≡ 0x0A → Q (AwaitKey x)) → (kk ≡ 0x15 → Q (Plain (ToDelay x)))
+      → (kk ≡ 0x18 → Q (Plain (ToTone x))) → (kk ≡ 0x1E → Q (Plain (AddIndex x))) → (kk ≡ 0x29 → Q (Plain (Digit x))) → (kk ≡ 0x33 → Q (Decimal x))
+      → (kk ≡ 0x55 → Q (Store x)) → (kk ≡ 0x65 → Q (Fetch x)) → Q Unlisted → Q (otherOp x kk)
+  on-other x kk from-delay await to-delay to-tone add digit decimal store fetch u =
+      by-test Q kk 0x07 from-delay (λ a. by-test Q kk 0x0A await (λ b. by-test Q kk 0x15 to-delay (λ c. by-test Q kk 0x18 to-tone
+      (λ d. by-test Q kk 0x1E add (λ e. by-test Q kk 0x29 digit (λ f. by-test Q kk 0x33 decimal (λ g. by-test Q kk 0x55 store
+      (λ h. by-test Q kk 0x65 fetch (λ i. u)))))))))
 
 -- a drawing is what its digits say
 module _ (edition : Edition) (hi lo : ℕ) where
@@ -154,7 +168,9 @@ module _ (edition : Edition) (hi lo : ℕ) where
   sums = on-sum way.Drawing Drawn edition (hi % 16) (lo / 16) (lo % 16) none unlisted
 
   others : D (otherOp (hi % 16) lo)
-  others = on-other way.Drawing Drawn (hi % 16) lo none (λ e. elsewhere refl e) (λ e. elsewhere refl e) (λ e. elsewhere refl e) (λ e. elsewhere refl e) unlisted
+  others =
+      on-other way.Drawing Drawn (hi % 16) lo (λ k. none _) (λ k e. elsewhere refl e) (λ k. none _) (λ k. none _) (λ k. none _) (λ k. none _)
+      (λ k e. elsewhere refl e) (λ k e. elsewhere refl e) (λ k e. elsewhere refl e) unlisted
 
   pub draws : wayOf (decode edition hi lo) ≡ way.Drawing → Drawn (decode edition hi lo)
   unfolding decode

@@ -24,11 +24,11 @@ wayOf (Fetch x) = way.Quiet
 wayOf Unlisted = way.Other
 wayOf MachineCode = way.Other
 
--- the last digits that 8XYN is listed with, a bit for each
+-- the last digits that 8XYN is listed with, a bit for each: 0, 1, 2, 4 and 5, or 0 to 7 and E
 abbrev pub listedDigits : Edition → ℕ
 listedDigits First = 0x0037
 listedDigits Second = 0x40FF
 
--- the first digits that are enough to tell a plain instruction, a bit for each
+-- the first digits whose instructions are all plain, a bit for each: 1, 3, 4, 6, 7, A, B and C
 abbrev pub plainDigits : ℕ
 plainDigits = 0x1CDA

@@ -1,6 +1,5 @@
 // What an instruction needs: the last refusals that there can be, before anything is written.
 ghost use mathlib.Core.Path.{_≡_};
-ghost use mathlib.Core.Bool.{true};
 ghost use mathlib.Core.List.{List};
 ghost use Prim.Native.Nat.{ℕ, _≤_, _<_};
 ghost use lib.ListN.{length, replicate};
@@ -13,8 +12,8 @@ ghost use Rattle.rules.specs.Rows.{bytesOf};
 ghost use Rattle.rules.specs.Step as rule;
 ghost use Rattle.rules.proofs.Good.{Bytes};
 ghost use Rattle.parts.specs.Whole.{whole};
-ghost use Rattle.transfers.specs.Quiet.{quiet};
-ghost use Rattle.transfers.specs.Other.{Other};
+ghost use Rattle.decode.specs.declared.Way.the-variants as way;
+ghost use Rattle.decode.specs.Ways.{wayOf};
 use parts::Core;
 use picture::Spots;
 use rules::Machine;
@@ -79,7 +78,7 @@ pub fn drawable(c: Core, column: usize, row: usize, n: u8, memory: &[u8], rows: 
 
 // What a quiet instruction needs: 4, 5 or 6. It leaves the picture, so no late 10 can come. Of the others it is never asked.
 pub fn judged_quiet(op: Op, c: Core) -> Outcome
-    requires { ⌜ (quiet op ≡ true) × (c .lit ≤ spotCount) ⌝ }
+    requires { ⌜ (wayOf op ≡ way.Quiet) × (c .lit ≤ spotCount) ⌝ }
     ensures { λ r. ⌜
         ((v stack memory picture : List ℕ) → Bytes pictureSize picture → number r ≡ orLater (rule.refusalOf op (whole c v stack))
         (rule.litRefusal (c .lit) picture (rule.pictureAfter op (whole c v stack) memory picture))) ⌝ }
@@ -112,7 +111,7 @@ pub fn judged_quiet(op: Op, c: Core) -> Outcome
 // What any other instruction needs that is no drawing: 2 or 3, or 6, and after it the late 10, of a number of lit spots that would leave
 // its range. Of those that have a way of their own it is never asked.
 pub fn judged(op: Op, c: Core, rows: &[u64]) -> Outcome
-    requires { ⌜ Other op × (c .lit ≤ spotCount) × (length (now rows) ≡ 32) ⌝ }
+    requires { ⌜ (wayOf op ≡ way.Other) × (c .lit ≤ spotCount) × (length (now rows) ≡ 32) ⌝ }
     ensures { λ r. ⌜ ((v stack memory : List ℕ) → number r ≡ orLater (rule.refusalOf op (whole c v stack))
         (rule.litRefusal (c .lit) (bytesOf (now (rows .entry)))
         (rule.pictureAfter op (whole c v stack) memory (bytesOf (now (rows .entry)))))) ⌝ }

@@ -1,4 +1,3 @@
 -- What a step's parts ask, and what they make together.
-pub mod ByWay
 pub mod Keep
 pub mod OneStep

@@ -1,9 +1,9 @@
 -- A step of a world that passed the tests 9 and 10: what it gives where it is refused, what its parts ask, and what they make together.
 use mathlib.Core.Path.{_≡_, refl, sym, ap, _∙_}
-use mathlib.Core.Bool.{true}
 use mathlib.Core.List.{List}
 use Prim.Native.Nat.{ℕ, _+_, _-_, _*_, _≤_, _<_}
 use native.Mathlib.Omega.{arith}
+use lib.Dec.{eqb}
 use lib.ListN.{length}
 use borrow.Author.Tests.{le-leb, lt-leb, eq-eqb, ne-eqb}
 use Rattle.rules.specs.declared.Action.{Action}
@@ -36,8 +36,9 @@ use Rattle.rules.proofs.Undo.{Fits}
 use Rattle.rules.proofs.Copied.{table-counts, table-few}
 use Rattle.rules.proofs.Given.{Back, given-refused, answered-done, refused-some}
 use Rattle.trail.specs.InRange.{InRange}
-use Rattle.transfers.specs.Other.{Other}
-use Rattle.transfers.specs.Quiet.{quiet}
+use Rattle.decode.specs.declared.Way.the-variants as way
+use Rattle.decode.specs.Ways.{wayOf}
+use Rattle.decode.proofs.Cases.{elsewhere, drawing-apart}
 use Rattle.act.specs.Able.{Able}
 use Rattle.act.specs.Became.{acted, Became}
 use Rattle.keeping.specs.Writable.{blank, Reaches}
@@ -124,10 +125,10 @@ module _ (w : World) (h : Ready w) where
     step-kept rows h₁ h₂ a sized =
         kept (w .history) h₁ h₂ (w .memory) rows (w .trail .next) m (changeOf op m) a (h .good .machine .v .size) place-inside (step-reaches rows sized)
 
-    pub able : quiet op ≡ true → Able op m (w .memory)
+    pub able : wayOf op ≡ way.Quiet → Able op m (w .memory)
     able q =
         record {
-          quiet-op = q;
+          quiet = q;
           end = h .good .machine .end .most;
           near = omega (arith, near, h .good .machine .end .most);
           shallow = h .good .machine .calls .most;
@@ -206,16 +207,16 @@ unfolding refusalOf after
 plain-passes w h s = same-passes (w .machine .lit) (w .picture) (h .good .machine .lit)
 
 -- only a drawing darkens spots
-pub other-dark : (op : Op) (m : Machine) (mem pic : List ℕ) → Other op → darkOf op m mem pic ≡ 0
+pub other-dark : (op : Op) (m : Machine) (mem pic : List ℕ) → wayOf op ≡ way.Other → darkOf op m mem pic ≡ 0
 unfolding darkOf
 other-dark Clear m mem pic o = refl
 other-dark (Decimal x) m mem pic o = refl
 other-dark (Store x) m mem pic o = refl
 other-dark Unlisted m mem pic o = refl
 other-dark MachineCode m mem pic o = refl
-other-dark (Plain s) m mem pic o = absurd o
-other-dark (AwaitKey x) m mem pic o = absurd o
-other-dark (Call a) m mem pic o = absurd o
-other-dark Return m mem pic o = absurd o
-other-dark (Draw x y n) m mem pic o = absurd o
-other-dark (Fetch x) m mem pic o = absurd o
+other-dark (Plain s) m mem pic o = elsewhere refl o
+other-dark (AwaitKey x) m mem pic o = elsewhere refl o
+other-dark (Call a) m mem pic o = elsewhere refl o
+other-dark Return m mem pic o = elsewhere refl o
+other-dark (Draw x y n) m mem pic o = drawing-apart (eqb n 0) o
+other-dark (Fetch x) m mem pic o = elsewhere refl o

@@ -7,7 +7,6 @@ ghost use Rattle.parts.specs.Whole.{whole};
 ghost use Rattle.rules.specs.Instruction.{decode};
 ghost use Rattle.decode.specs.declared.Way.the-variants as way;
 ghost use Rattle.decode.specs.Ways.{wayOf};
-ghost use Rattle.transfers.specs.Other.{Other};
 ghost use Rattle.ways.specs.Steps.{Reached, Made};
 use parts::Core;
 use rules::Action;
@@ -126,7 +125,7 @@ pub fn other_step(
     keys: u16,
     random: u8,
 ) -> Stepped
-    requires { ⌜ Other op × Reached op (world (whole c (now v) (now stack)) trail (now memory) (bytesOf (now rows)) (now history)) ⌝ }
+    requires { ⌜ (wayOf op ≡ way.Other) × Reached op (world (whole c (now v) (now stack)) trail (now memory) (bytesOf (now rows)) (now history)) ⌝ }
     ensures { λ r. ⌜ Made keys random
         (world (whole c (now (v .entry)) (now (stack .entry))) trail (now (memory .entry)) (bytesOf (now (rows .entry)))
         (now (history .entry))) r (now (v .entry)) (now (stack .entry)) (now (memory .exit)) (bytesOf (now (rows .exit))) (now (history .exit)) ⌝ }

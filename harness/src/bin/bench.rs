@@ -100,14 +100,14 @@ fn main() {
 
 fn print_runs(measured: &[(&str, Measured)]) {
     println!(
-        "{:<15} | {:<15} | {:<15} | {:<15} | card/tuned | floor/card",
-        "a run", "card_run", "tuned", "floor"
+        "{:<15} | {:<15} | {:<15} | {:<15} | {:<11} | floor/card",
+        "a run", "card_run", "tuned", "floor", "card/tuned"
     );
     for (name, m) in measured {
-        let to_tuned = m.card_run.best / m.tuned_run.best;
+        let to_tuned = m.card_run.to(&m.tuned_run);
         let to_floor = m.floor.best / m.card_run.best;
         println!(
-            "{name:<15} | {} | {} | {} | {to_tuned:>10.2} | {to_floor:>10.2}",
+            "{name:<15} | {} | {} | {} | {to_tuned} | {to_floor:>10.2}",
             m.card_run, m.tuned_run, m.floor
         );
     }
@@ -115,13 +115,13 @@ fn print_runs(measured: &[(&str, Measured)]) {
 
 fn print_steps(measured: &[(&str, Measured)]) {
     println!(
-        "{:<15} | {:<15} | {:<15} | {:<15} | card/tuned |",
-        "one by one", "card_step", "tuned", ""
+        "{:<15} | {:<15} | {:<15} | {:<15} | {:<11} |",
+        "one by one", "card_step", "tuned", "", "card/tuned"
     );
     for (name, m) in measured {
-        let to_tuned = m.card_step.best / m.tuned_step.best;
+        let to_tuned = m.card_step.to(&m.tuned_step);
         println!(
-            "{name:<15} | {} | {} | {:<15} | {to_tuned:>10.2} |",
+            "{name:<15} | {} | {} | {:<15} | {to_tuned} |",
             m.card_step, m.tuned_step, ""
         );
     }
@@ -184,6 +184,16 @@ fn panels(mut write: impl FnMut(usize)) -> f64 {
 struct Speed {
     best: f64,
     median: f64,
+}
+
+impl Speed {
+    /// What it is to another, by the best turns and by the medians. A best turn alone
+    /// says nothing of an engine whose turns are seldom so good.
+    fn to(&self, other: &Speed) -> String {
+        let best = self.best / other.best;
+        let median = self.median / other.median;
+        format!("{best:.2} ({median:.2})")
+    }
 }
 
 impl fmt::Display for Speed {

@@ -3,6 +3,7 @@ use mathlib.Core.Path.{_≡_, refl}
 use mathlib.Core.List.{List, []}
 use Prim.Native.Nat.{ℕ}
 use native.Mathlib.Omega.{arith}
+use lib.Dec.{eqb}
 use borrow.Author.Needs.{needs}
 use Rattle.rules.specs.declared.Machine.{Machine}
 use Rattle.rules.specs.declared.Op.{Op}
@@ -10,6 +11,7 @@ use Rattle.rules.specs.declared.Op.the-variants.{Decimal, Store}
 use Rattle.rules.specs.Step.{after, refusalOf}
 use Rattle.rules.specs.Rows.{bytesOf}
 use Rattle.parts.specs.Whole.{whole}
+use Rattle.decode.proofs.Cases.{elsewhere, drawing-apart}
 use Rattle.act.specs.Became.{acted, Became}
 use Rattle.act.proofs.Laws.{decimal-reach, store-reach, clear-passes, still}
 use Rattle.act.proofs.act.Statement.{statement}
@@ -38,16 +40,16 @@ stayed : (s : tie.Start) (op : Op) (keys random : ℕ) (stack : List ℕ) {m′ 
 stayed s op keys random stack = let a = s .args in still op keys random (whole (a .c) (a .v .now) stack) (a .memory .now) (bytesOf (a .rows .now))
 
 returns : tie.Need-returns
-returns c keys random stack = absurd (rw (c .enum-told .given .1) at (c .before .before .before .before .pre [] .other))
+returns c keys random stack = elsewhere refl (rw (c .enum-told .given .1) at (c .before .before .before .before .pre [] .other))
 
 returns-2 : tie.Need-returns-2
-returns-2 c keys random stack = absurd (rw (c .enum-told2 .given .1) at (c .before .before .before .before .pre [] .other))
+returns-2 c keys random stack = elsewhere refl (rw (c .enum-told2 .given .1) at (c .before .before .before .before .pre [] .other))
 
 returns-3 : tie.Need-returns-3
-returns-3 c keys random stack = absurd (rw (c .enum-told3 .given .1) at (c .before .before .before .before .pre [] .other))
+returns-3 c keys random stack = elsewhere refl (rw (c .enum-told3 .given .1) at (c .before .before .before .before .pre [] .other))
 
 returns-4 : tie.Need-returns-4
-returns-4 c keys random stack = absurd (rw (c .enum-told4 .given .1) at (c .before .before .before .before .pre [] .other))
+returns-4 c keys random stack = elsewhere refl (rw (c .enum-told4 .given .1) at (c .before .before .before .before .pre [] .other))
 
 returns-5 : tie.Need-returns-5
 unfolding after
@@ -56,7 +58,7 @@ returns-5 c keys random stack =
     rw (cleared .before .before .enum-told5 .given .1) (record { machine = cleared .clear .ensures .1 _ _; memory = refl; picture = cleared .clear .ensures .0 })
 
 returns-6 : tie.Need-returns-6
-returns-6 c keys random stack = absurd (rw (c .enum-told6 .given .1) at (c .before .before .before .before .pre [] .other))
+returns-6 c keys random stack = drawing-apart (eqb (c .enum-told6 .given .0 .1 .1 .0) 0) (rw (c .enum-told6 .given .1) at (c .before .before .before .before .pre [] .other))
 
 returns-7 : tie.Need-returns-7
 unfolding after
@@ -73,7 +75,7 @@ returns-8 c keys random stack =
     (stayed (told .before .before .before .before) (Store _) keys random stack refl (record { machine = c .before .before .store .ensures .1 _ _; memory = c .before .before .store .ensures .0; picture = refl }))
 
 returns-9 : tie.Need-returns-9
-returns-9 c keys random stack = absurd (rw (c .enum-told7 .given .1) at (c .before .before .before .before .pre [] .other))
+returns-9 c keys random stack = elsewhere refl (rw (c .enum-told7 .given .1) at (c .before .before .before .before .pre [] .other))
 
 returns-10 : tie.Need-returns-10
 unfolding refusalOf

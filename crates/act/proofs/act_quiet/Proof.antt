@@ -1,9 +1,9 @@
 -- Each arm is the definition's clause for the instruction that was matched: its callee's promise, and what it leaves alone. Six are never asked.
 use mathlib.Core.Path.{_≡_, refl, ap, _∙_}
-use mathlib.Core.Bool.{false≢true}
 use mathlib.Core.List.{List}
 use Prim.Native.Nat.{ℕ}
 use native.Mathlib.Omega.{arith}
+use lib.Dec.{eqb}
 use borrow.Author.Needs.{needs}
 use borrow.Author.Tests.{eqb-true}
 use Rattle.rules.specs.declared.Machine.{Machine}
@@ -13,6 +13,7 @@ use Rattle.rules.specs.declared.Wait.the-variants.{Idle}
 use Rattle.rules.specs.State.{withWait}
 use Rattle.rules.specs.Step.{after, column, row}
 use Rattle.parts.specs.Whole.{whole}
+use Rattle.decode.proofs.Cases.{elsewhere, no-rows}
 use Rattle.transfers.proofs.Quiet.{nothing-drawn, nothing-darkened}
 use Rattle.act.specs.Became.{acted, Became}
 use Rattle.act.proofs.Laws.{call-room, return-entry, fetch-reach, still}
@@ -38,7 +39,7 @@ stayed : (s : tie.Start) (op : Op) (random : ℕ) (P : List ℕ) {m′ : Machine
 stayed s op random P = let a = s .args in still op (a .keys) random (whole (a .c) (a .v .now) (a .stack .now)) (a .memory .now) P
 
 returns : tie.Need-returns
-returns c random P g = absurd (false≢true (rw (c .enum-told .given .1) at (c .before .before .before .pre .quiet-op)))
+returns c random P g = elsewhere refl (rw (c .enum-told .given .1) at (c .before .before .before .pre .quiet))
 
 returns-2 : tie.Need-returns-2
 unfolding after
@@ -61,7 +62,7 @@ returns-4 c random P g =
     (stayed (told .before .before .before) Return random P refl (record { machine = c .idle2 .ensures _ _ ∙ ap (withWait Idle) (c .before .returned .ensures _); memory = refl; picture = refl }))
 
 returns-5 : tie.Need-returns-5
-returns-5 c random P g = absurd (false≢true (rw (c .enum-told3 .given .1) at (c .before .before .before .pre .quiet-op)))
+returns-5 c random P g = elsewhere refl (rw (c .enum-told3 .given .1) at (c .before .before .before .pre .quiet))
 
 -- of no rows, a drawing only sets VF to 0
 returns-6 : tie.Need-returns-6
@@ -72,7 +73,7 @@ returns-6 c random P g =
     let a = s .args in
     let m = whole (a .c) (a .v .now) (a .stack .now) in
     let (xyn, is) = told .enum-told4 .given in
-    let none = eqb-true (xyn .1 .1 .0) 0 (rw is at (s .pre .quiet-op)) in
+    let none = eqb-true (xyn .1 .1 .0) 0 (no-rows (eqb (xyn .1 .1 .0) 0) (rw is at (s .pre .quiet))) in
     let at = column m (xyn .0) in
     let down = row m (xyn .1 .0) in
     rw (is, none)
@@ -84,10 +85,10 @@ returns-6 c random P g =
     }))
 
 returns-7 : tie.Need-returns-7
-returns-7 c random P g = absurd (false≢true (rw (c .enum-told5 .given .1) at (c .before .before .before .pre .quiet-op)))
+returns-7 c random P g = elsewhere refl (rw (c .enum-told5 .given .1) at (c .before .before .before .pre .quiet))
 
 returns-8 : tie.Need-returns-8
-returns-8 c random P g = absurd (false≢true (rw (c .enum-told6 .given .1) at (c .before .before .before .pre .quiet-op)))
+returns-8 c random P g = elsewhere refl (rw (c .enum-told6 .given .1) at (c .before .before .before .pre .quiet))
 
 returns-9 : tie.Need-returns-9
 unfolding after
@@ -97,10 +98,10 @@ returns-9 c random P g =
     (stayed (told .before .before .before) (Fetch _) random P refl (record { machine = c .fetch .ensures _; memory = refl; picture = refl }))
 
 returns-10 : tie.Need-returns-10
-returns-10 c random P g = absurd (false≢true (rw (c .enum-told7 .given .1) at (c .before .before .before .pre .quiet-op)))
+returns-10 c random P g = elsewhere refl (rw (c .enum-told7 .given .1) at (c .before .before .before .pre .quiet))
 
 returns-11 : tie.Need-returns-11
-returns-11 c random P g = absurd (false≢true (rw (c .enum-told8 .given .1) at (c .before .before .before .pre .quiet-op)))
+returns-11 c random P g = elsewhere refl (rw (c .enum-told8 .given .1) at (c .before .before .before .pre .quiet))
 
 pub act-quiet-spec : {M : Type 1} → statement M
 act-quiet-spec = tie.close (tie.spec (search needs) (search needs) (search needs) (search needs) called-requires (search needs) (search needs) returned-requires (search needs) (search needs) (search needs) (search needs) (search needs) (search needs) (search needs) (search needs) fetch-requires (search needs) (search needs) returns returns-2 returns-3 returns-4 returns-5 returns-6 returns-7 returns-8 returns-9 returns-10 returns-11)

@@ -10,7 +10,6 @@ use Rattle.decode.specs.declared.Way.the-variants as way
 use Rattle.decode.specs.Ways.{wayOf}
 use Rattle.decode.proofs.Cases.{draws}
 use Rattle.ways.specs.Steps.{Reached}
-use Rattle.ways.proofs.ByWay.{is-other}
 use Rattle.ways.proofs.OneStep.{far, far-dark, far-copied, back, reached-as}
 use Rattle.moves.proofs.step.Statement.{statement}
 use Rattle.moves.proofs.step.Tie as tie
@@ -68,7 +67,7 @@ other-step-requires c κs =
     let asked = told .before .before in
     let other : wayOf (op asked) ≡ way.Other = sym (asked .way-of .ensures) ∙ told .enum-told4 .given .1 in
     let same = known .other-of .ensures _ other in
-    (rw same at (is-other (op asked) other), reached-as same (reached asked))
+    (rw same at other, reached-as same (reached asked))
 
 pub step-spec : {M : Type 1} → statement M
 step-spec =

@@ -1,10 +1,10 @@
 -- Each arm is the definition's clause for the instruction that was matched, by the test that led there; a quiet one leaves the picture, and
 -- with it the number in its range.
-use mathlib.Core.Path.{_≡_, sym, _∙_}
-use mathlib.Core.Bool.{false≢true}
+use mathlib.Core.Path.{_≡_, refl, sym, _∙_}
 use mathlib.Core.List.{List}
 use Prim.Native.Nat.{ℕ}
 use native.Mathlib.Omega.{arith}
+use lib.Dec.{eqb}
 use borrow.Author.Tests.{lt-ltb, le-ltb, le-leb}
 use borrow.Author.Needs.{needs}
 use Rattle.rules.specs.Number.{orLater}
@@ -13,6 +13,7 @@ use Rattle.rules.proofs.Choices.{no-later}
 use Rattle.rules.proofs.Counted.{same-passes}
 use Rattle.rules.proofs.Good.{Bytes}
 use Rattle.parts.specs.Whole.{whole}
+use Rattle.decode.proofs.Cases.{elsewhere, no-rows}
 use Rattle.transfers.proofs.Quiet.{quiet-leaves}
 use Rattle.verdict.proofs.judged_quiet.Statement.{statement}
 use Rattle.verdict.proofs.judged_quiet.Tie as tie
@@ -39,7 +40,7 @@ returns-2 c v stack memory picture g =
     settled (told .before .before) v stack memory picture g 0 (rw (told .enum-told4 .given .1, lt-ltb 0 _ (c .if2 .taken)))
 
 returns-3 : tie.Need-returns-3
-returns-3 c v stack memory picture g = absurd (false≢true (rw (c .enum-told .given .1) at (c .before .before .pre .0)))
+returns-3 c v stack memory picture g = elsewhere refl (rw (c .enum-told .given .1) at (c .before .before .pre .0))
 
 returns-4 : tie.Need-returns-4
 unfolding refusalOf
@@ -58,7 +59,7 @@ returns-6 c v stack memory picture g =
     settled (told .before .before) v stack memory picture g 5 (rw (told .enum-told4 .given .1, le-ltb 0 _ (c .if2 .left)))
 
 returns-7 : tie.Need-returns-7
-returns-7 c v stack memory picture g = absurd (false≢true (rw (c .enum-told5 .given .1) at (c .before .before .pre .0)))
+returns-7 c v stack memory picture g = elsewhere refl (rw (c .enum-told5 .given .1) at (c .before .before .pre .0))
 
 -- no rows need no memory
 returns-8 : tie.Need-returns-8
@@ -66,14 +67,14 @@ unfolding refusalOf
 returns-8 c v stack memory picture g =
     let s = c .before .before in
     let (is, told) = c .enum-told6 .given in
-    let none = rw told at (s .pre .0) in
+    let none = no-rows (eqb (is .1 .1 .0) 0) (rw told at (s .pre .0)) in
     settled s v stack memory picture g 0 (rw (told, none, le-leb 0 (s .args .c .end) (omega arith)))
 
 returns-9 : tie.Need-returns-9
-returns-9 c v stack memory picture g = absurd (false≢true (rw (c .enum-told7 .given .1) at (c .before .before .pre .0)))
+returns-9 c v stack memory picture g = elsewhere refl (rw (c .enum-told7 .given .1) at (c .before .before .pre .0))
 
 returns-10 : tie.Need-returns-10
-returns-10 c v stack memory picture g = absurd (false≢true (rw (c .enum-told8 .given .1) at (c .before .before .pre .0)))
+returns-10 c v stack memory picture g = elsewhere refl (rw (c .enum-told8 .given .1) at (c .before .before .pre .0))
 
 returns-11 : tie.Need-returns-11
 unfolding refusalOf
@@ -82,10 +83,10 @@ returns-11 c v stack memory picture g =
     settled (op .before .before) v stack memory picture g _ (rw (op .op .given .1, ← c .before .up-to .ensures) (c .past .ensures v stack))
 
 returns-12 : tie.Need-returns-12
-returns-12 c v stack memory picture g = absurd (false≢true (rw (c .enum-told9 .given .1) at (c .before .before .pre .0)))
+returns-12 c v stack memory picture g = elsewhere refl (rw (c .enum-told9 .given .1) at (c .before .before .pre .0))
 
 returns-13 : tie.Need-returns-13
-returns-13 c v stack memory picture g = absurd (false≢true (rw (c .enum-told10 .given .1) at (c .before .before .pre .0)))
+returns-13 c v stack memory picture g = elsewhere refl (rw (c .enum-told10 .given .1) at (c .before .before .pre .0))
 
 pub judged-quiet-spec : {M : Type 1} → statement M
 judged-quiet-spec =

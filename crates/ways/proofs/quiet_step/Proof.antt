@@ -1,6 +1,5 @@
 -- It is refused by what was judged; else its record keeps no old bytes, and it leaves memory and the picture.
 use mathlib.Core.Path.{_≡_, refl, sym, ap, _∙_}
-use mathlib.Core.Bool.{true}
 use mathlib.Core.List.{List}
 use Prim.Native.Nat.{ℕ, _*_}
 use native.Mathlib.Omega.{arith}
@@ -14,9 +13,7 @@ use Rattle.rules.specs.World.{World, world}
 use Rattle.rules.specs.Rows.{bytesOf}
 use Rattle.parts.specs.Whole.{whole}
 use Rattle.keeping.proofs.Laid.{nothing-old}
-use Rattle.transfers.specs.Quiet.{quiet}
 use Rattle.transfers.proofs.Quiet.{quiet-leaves}
-use Rattle.ways.proofs.ByWay.{is-quiet}
 use Rattle.ways.proofs.OneStep.{verdict, in-range, place-inside, back, reached-refused, able, made}
 use Rattle.ways.proofs.quiet_step.Statement.{statement}
 use Rattle.ways.proofs.quiet_step.Tie as tie
@@ -35,13 +32,10 @@ op s = let a = s .args in decode (a .c .edition) (a .hi) (a .lo)
 found : (c : tie.After-quiet-of) → let s = c .before .before .before .before in op s ≡ c .quiet-of .result
 found c = let s = c .before .before .before .before in c .quiet-of .ensures (s .args .c .edition) (s .pre .0)
 
-quietly : (s : tie.Start) → quiet (op s) ≡ true
-quietly s = is-quiet (op s) (s .pre .0)
-
 judged-requires : tie.Need-judged-quiet-requires
 judged-requires c κs =
     let s = c .before .before .before .before in
-    (rw (found c) at (quietly s), s .pre .1 .ready .good .machine .lit)
+    (rw (found c) at (s .pre .0), s .pre .1 .ready .good .machine .lit)
 
 -- what the judgement says
 says : (c : tie.After-judged-quiet) → let s = c .before .before .before .before .before in number (c .judged-quiet .result) ≡ verdict (given s) (s .pre .1 .ready) (op s)
@@ -77,7 +71,7 @@ act-quiet-requires c κs =
     let told = known .before .before .before .before .before .before .before .before .before in
     let s = told .before .before .before .before .before .before .before in
     let r = s .pre .1 in
-    rw (again known) at (able (given s) (r .ready) (op s) (r .there) (r .near) (passed told) (quietly s))
+    rw (again known) at (able (given s) (r .ready) (op s) (r .there) (r .near) (passed told) (s .pre .0))
 
 grown-requires : tie.Need-grown-requires
 grown-requires c κs =
@@ -97,7 +91,7 @@ returns-2 c =
     let r = s .pre .1 in
     let w = given s in
     let P = bytesOf (a .rows .now) in
-    let leaves = quiet-leaves (op s) (machine s) (a .memory .now) P (quietly s) (r .ready .good .picture) in
+    let leaves = quiet-leaves (op s) (machine s) (a .memory .now) P (s .pre .0) (r .ready .good .picture) in
     made w (op s) r (passed told) (a .keys) (a .random) _ _ _ _ _ _ refl (rw (← again known) at (acted .act-quiet .ensures (a .random) P (r .ready .good .picture)))
     (rw (placed .places .ensures) at (c .grown .ensures))
     (rw (leaves .keeps) (kept .keep-state .ensures ∙ ap (λ (l : List ℕ). over (a .history .now) (292 * a .trail .next) l 292) (nothing-old (machine s) (Step (a .keys) (a .random)))))
