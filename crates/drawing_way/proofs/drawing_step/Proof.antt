@@ -19,7 +19,7 @@ use Rattle.rules.proofs.Turning.{picture-rows}
 use Rattle.parts.specs.Whole.{whole}
 use Rattle.act.proofs.Laws.{draw-reach, draw-passes}
 use Rattle.keeping.proofs.Inside.{lent-inside}
-use Rattle.ways.proofs.OneStep.{verdict, in-range, place-inside, back, reached-refused, step-kept, made}
+use Rattle.ways.proofs.OneStep.{verdict, in-range, place-inside, reached-back, step-kept, made}
 use Rattle.drawing_way.proofs.Pattern.{fits, rows-old, pattern-length}
 use Rattle.drawing_way.proofs.drawing_step.Statement.{statement}
 use Rattle.drawing_way.proofs.drawing_step.Tie as tie
@@ -72,8 +72,8 @@ returns c =
     let s = start (placed judged) in
     let a = s .args in
     let told = c .before .enum-told2 .given in
-    let (gives, dark, copied) = reached-refused (given s) (op s) (s .pre) (a .keys) (a .random) (told .0 .0) (sym (ap number (told .1)) ∙ says judged) in
-    rw (c .refused .ensures, told .1) (back (a .keys) (a .random) (a .c) (a .v .now) (a .stack .now) (a .trail) (a .memory .now) (bytesOf (a .rows .now)) (a .history .now) _ gives dark copied)
+    rw (c .refused .ensures, told .1)
+    (reached-back (a .keys) (a .random) (a .c) (a .v .now) (a .stack .now) (a .trail) (a .memory .now) (bytesOf (a .rows .now)) (a .history .now) (op s) _ (s .pre) (sym (ap number (told .1)) ∙ says judged))
 
 -- what the judgement leaves
 abbrev allowed-at : tie.After-enum-told → tie.After-row-of
