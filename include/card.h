@@ -532,10 +532,11 @@ uint32_t card_salvage(uint8_t *image, size_t image_length,
  *
  * Given the same image, memory and lists as card_run and the same picture in its
  * own form, it gives the same number, the same memory, the same state in the image
- * and the same answer[CARD_ACCEPTED], and the spots are then those of the rows,
- * whatever the history was. It is lent no history: next, kept and ahead of the
- * image are neither tested nor changed, and the other three numbers of the answer
- * are 0.
+ * and the same answer[CARD_ACCEPTED], and the spots are then those of the rows.
+ * That holds beside every history that card_run takes, whatever its bytes are: one
+ * of a right length, with next, kept and ahead in range. The plain engine is lent
+ * none, so it tests neither, and leaves the three as they are; the other three
+ * numbers of the answer are 0.
  *
  * Memory, spots or lists of a wrong length are CARD_LENGTH. A state that cannot be
  * is CARD_UNSOUND, and so is a spot that is neither 0 nor 1.
