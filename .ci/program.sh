@@ -91,7 +91,7 @@ run_unproved() {
 }
 
 if [ "$prove" = yes ] && ! current; then
-    say "$script: proving the machine and the program: three to four minutes from nothing, less where a part is proved already"
+    say "$script: proving the machine and the program: some minutes from nothing, less where a part is proved already"
     { (cd "$root" && "$rt" check "$program") 2>&1; echo $? >"$work/ended"; } | grep --line-buffered '^rt: ' >&2
     [ "$(cat "$work/ended")" = 0 ] || die "it is not proved: 'rt check $program' says why"
     touch "$built"

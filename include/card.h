@@ -2,15 +2,21 @@
  * card.h - the machine inside a game card: CHIP-8 of 1978 with a step back and
  * a step forward again.
  *
- * Link with the static library libcard.a. Seven functions load a program, make
- * one step or one clock tick, go one action back or forward again, run a list
- * of inputs, and play a list of moves. They hold the picture as rows, and two
- * more turn rows into bytes and bytes into rows. A tenth turns those bytes into
- * the ones of the card's own panel, an eleventh draws a page of the variables,
- * for a dock that shows the game or its insides, a twelfth salvages a history
- * in which cells have worn, and a thirteenth makes a run on the plain engine of
- * the bench, with no history. A load chooses the edition of the instruction set
- * and where memory ends.
+ * Link with the static library libcard.a; it needs nothing else:
+ *
+ *   cc -Iinclude dock.c libcard.a
+ *
+ * harness/c/dock.c is a worked dock: it makes every call but card_plain, and looks
+ * at what came of it.
+ *
+ * Seven functions load a program, make one step or one clock tick, go one action
+ * back or forward again, run a list of inputs, and play a list of moves. They
+ * hold the picture as rows, and two more turn rows into bytes and bytes into rows.
+ * A tenth turns those bytes into the ones of the card's own panel, an eleventh
+ * draws a page of the variables, for a dock that shows the game or its insides, a
+ * twelfth salvages a history in which cells have worn, and a thirteenth makes a
+ * run on the plain engine of the bench, with no history. A load chooses the
+ * edition of the instruction set and where memory ends.
  *
  * THE BUFFERS
  *
@@ -247,8 +253,8 @@ enum card_refusal {
  * The late 10 is said of the number of lit spots alone: the state is one that can
  * be, but the number in it is false. Like every refusal of an action it leaves
  * everything. A run ends there and a play goes on, and both keep the actions
- * before it. So CARD_UNSOUND of a run or a play, on either engine, does not say that
- * nothing was done.
+ * before it. So CARD_UNSOUND of a run or a play, on either engine, does not say
+ * that nothing was done.
  */
 
 /* ---- The image ---------------------------------------------------------- */
@@ -289,6 +295,32 @@ enum card_refusal {
 #define CARD_SMALL_END 0x06A0
 #define CARD_FULL_END 0x1000
 
+/* ---- A record of the history -------------------------------------------- */
+
+/*
+ * Place k of a history begins at CARD_PLACE * k. The newest record stands in the
+ * place before next, the last place being before 0; kept of them, going round,
+ * can be taken back. A record has what stood before its action, and then what the
+ * action was given. A dock may read it, to show the past; card_back and
+ * card_forward need no help. Numbers of two bytes have the high byte first.
+ */
+#define CARD_RECORD_AT_MARK 0     /* NO, ME or DI: what changed beside the state */
+#define CARD_RECORD_AT_V 2        /* V0 to VF, a byte each */
+#define CARD_RECORD_AT_I 18       /* two bytes */
+#define CARD_RECORD_AT_PC 20      /* two bytes */
+#define CARD_RECORD_AT_DEPTH 22   /* return addresses on the stack */
+#define CARD_RECORD_AT_RETURN 23  /* two bytes: the last of them, 0 if none */
+#define CARD_RECORD_AT_DELAY 25   /* the delay timer */
+#define CARD_RECORD_AT_TONE 26    /* the tone timer */
+#define CARD_RECORD_AT_HELD 27    /* the key that FX0A held, or FF for none */
+#define CARD_RECORD_AT_START 28   /* two bytes: of ME in memory, of DI in the
+                                     picture as bytes; 0 of NO */
+#define CARD_RECORD_AT_COUNT 30   /* two bytes: how many bytes; 0 of NO */
+#define CARD_RECORD_AT_OLD 32     /* so many old bytes, then 0 up to 287 */
+#define CARD_RECORD_AT_KEYS 288   /* two bytes: the keys of a step; 0 of a tick */
+#define CARD_RECORD_AT_RANDOM 290 /* the random byte of a step; 0 of a tick */
+#define CARD_RECORD_AT_KIND 291   /* 1 for a step, 0 for a tick */
+
 /* ---- The answer of a step and of a run ---------------------------------- */
 
 /*
@@ -324,8 +356,9 @@ enum card_standing {
  * The image becomes the fresh one (PC 0200, held key FF, the edition and the end
  * that were asked for, all else 0) even when the load is refused, provided it has
  * 64 bytes. It has the first edition where no such edition was asked for, and
- * CARD_FULL_END where no such end was, whichever number refuses the load. A refused load leaves memory, rows and history; so its number
- * of lit spots, 0, is false where the rows are not dark.
+ * CARD_FULL_END where no such end was, whichever number refuses the load. A
+ * refused load leaves memory, rows and history; so its number of lit spots, 0, is
+ * false where the rows are not dark.
  */
 uint32_t card_load(const uint8_t *program, size_t program_length,
                    uint8_t edition, uint16_t end,
@@ -354,8 +387,9 @@ uint32_t card_step(uint8_t *image, size_t image_length,
                    uint64_t *answer, size_t answer_length);
 
 /*
- * One tick of the clock: lowers each timer that is not 0 by one. A tick is an
- * action with a record of its own, so a back takes it back.
+ * One tick of the clock: lowers each timer that is not 0 by one. A dock makes
+ * sixty a second. A tick is an action with a record of its own, so a back takes it
+ * back.
  */
 uint32_t card_tick(uint8_t *image, size_t image_length,
                    uint8_t *history, size_t history_length);
@@ -403,7 +437,9 @@ uint32_t card_forward(uint8_t *image, size_t image_length,
  *
  * CARD_UNSOUND may be either. For a state that cannot be, the run itself is
  * refused, and nothing was done. For a false number of lit spots a step is
- * refused, late, and the image shows what was done before it.
+ * refused, late, and the image shows what was done before it. A run of no entries
+ * tests 9 and 10 and changes nothing; so made afterwards, with an answer of its
+ * own, it tells the two apart: CARD_UNSOUND for the one, CARD_DONE for the other.
  */
 uint32_t card_run(uint8_t *image, size_t image_length,
                   uint8_t *memory, size_t memory_length,
@@ -532,10 +568,11 @@ uint32_t card_salvage(uint8_t *image, size_t image_length,
  *
  * Given the same image, memory and lists as card_run and the same picture in its
  * own form, it gives the same number, the same memory, the same state in the image
- * and the same answer[CARD_ACCEPTED], and the spots are then those of the rows,
- * whatever the history was. It is lent no history: next, kept and ahead of the
- * image are neither tested nor changed, and the other three numbers of the answer
- * are 0.
+ * and the same answer[CARD_ACCEPTED], and the spots are then those of the rows.
+ * That holds beside every history that card_run takes, whatever its bytes are: one
+ * of a right length, with next, kept and ahead in range. The plain engine is lent
+ * none, so it tests neither, and leaves the three as they are; the other three
+ * numbers of the answer are 0.
  *
  * Memory, spots or lists of a wrong length are CARD_LENGTH. A state that cannot be
  * is CARD_UNSOUND, and so is a spot that is neither 0 nor 1.

@@ -4,6 +4,7 @@ pub mod buffers;
 pub mod card;
 pub mod case;
 pub mod check;
+pub mod desk;
 pub mod dots;
 pub mod edges;
 pub mod engine;

@@ -54,8 +54,8 @@ fn eight(
         let mask = pattern::mask_of(picture::wide(pattern[y - row]), column);
         let n = rows[y];
         memory::lay_eight(place, at + 8 * (y - from), n);
-        met = pattern::gather(met, n & mask);
         shown = pattern::gather(shown, mask);
+        met = pattern::gather(met, n & mask);
         rows[y] = n ^ mask;
         y += 1;
     }
@@ -66,7 +66,7 @@ fn eight(
 }
 
 // Draws the pattern with its upper left corner in that column and row, and says what that turned over. The rows as they were are laid into
-// a place for them, from `at` on: so each is read once, and a step passes over them once.
+// a place for them, from `at` on: so each is read once, and a step passes over them once. More than eight rows are drawn in two parts.
 pub fn draw(
     rows: &mut [u64],
     place: &mut [u8],
@@ -82,43 +82,40 @@ pub fn draw(
     ensures { λ r. ⌜ Turns (now (pattern .entry)) column row (bytesOf (now (rows .entry))) r ⌝ }
 {
     let end = row + least(pattern.len(), 32 - row);
-    let middle = least(row + 8, end);
-    let upper = eight(rows, place, at, pattern, column, row, row, middle);
-    // Where at most eight rows are drawn there is no lower part, and nothing in it to count.
-    if middle == end {
+    let middle = row + 8;
+    if middle < end {
+        let upper = eight(rows, place, at, pattern, column, row, row, middle);
+        let lower = eight(rows, place, at + 64, pattern, column, row, middle, end);
+        let dark = upper.dark + lower.dark;
         return Spots {
-            dark: upper.dark,
-            lit: upper.all - upper.dark,
+            dark,
+            lit: upper.all + lower.all - dark,
         };
     }
-    let below = at + 8 * (middle - row);
-    let lower = eight(rows, place, below, pattern, column, row, middle, end);
-    let dark = upper.dark + lower.dark;
+    let only = eight(rows, place, at, pattern, column, row, row, end);
     Spots {
-        dark,
-        lit: upper.all + lower.all - dark,
+        dark: only.dark,
+        lit: only.all - only.dark,
     }
 }
 
-fn copied(rows: &[u64]) -> [u64; 32]
-    requires { ⌜ length (now rows) ≡ 32 ⌝ }
-    ensures { λ r. ⌜ r ≡ now (rows .entry) ⌝ }
-{
-    let mut copy = [0; 32];
-    let mut i = 0;
-    while i < 32 {
-        copy[i] = rows[i];
-        i += 1;
-    }
-    copy
-}
-
-// What drawing the pattern there would turn over. It is drawn into a copy: so one function counts, before and while it is written.
+// What drawing the pattern there would turn over. It is counted row by row, and nothing is written.
 pub fn would_turn(rows: &[u64], pattern: &[u8], column: usize, row: usize) -> Spots
     requires { ⌜ (length (now rows) ≡ 32) × (column < 64) × (row < 32) × (length (now pattern) ≤ 16) ⌝ }
     ensures { λ r. ⌜ Turns (now (pattern .entry)) column row (bytesOf (now (rows .entry))) r ⌝ }
 {
-    let mut copy = copied(rows);
-    let mut unread = [0; 128];
-    draw(&mut copy, &mut unread, 0, pattern, column, row)
+    let all = least(pattern.len(), 32 - row);
+    let mut dark = 0;
+    let mut shown = 0;
+    let mut k = 0;
+    while k < all {
+        let mask = pattern::mask_of(picture::wide(pattern[k]), column);
+        dark += picture::ones_in(rows[row + k] & mask);
+        shown += picture::ones_in(mask);
+        k += 1;
+    }
+    Spots {
+        dark,
+        lit: shown - dark,
+    }
 }

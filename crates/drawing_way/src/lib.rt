@@ -49,9 +49,18 @@ pub fn drawing_step(
         change,
         Action::Step(keys, random),
     );
-    let old = keeping::PLACE * next + keeping::AT_OLD;
+    let at = keeping::PLACE * next;
     let pattern = transfers::pattern(c.i, n, memory);
-    let acted = transfers::draw(c, v, column, row as usize, pattern, rows, history, old);
+    let acted = transfers::draw(
+        c,
+        v,
+        column,
+        row as usize,
+        pattern,
+        rows,
+        &mut history[at..at + keeping::PLACE],
+        keeping::AT_OLD,
+    );
     let core = acted.core;
     Stepped {
         outcome: Outcome::Done,

@@ -47,10 +47,10 @@ grown-range t r h =
       few = h .few;
     }
 
-pub again-tickable : (m m′ : Machine) (t t′ : Trail) (his his′ : List ℕ) (o : Outcome) → Tickable m t his → length his′ ≡ length his
-    → Gives (unrefused (ticked (world m t [] [] his))) o m′ t′ [] [] his′ → Tickable m′ t′ his′
+pub again-tickable : (m m′ : Machine) (t t′ : Trail) (his his′ : List ℕ) → Tickable m t his → length his′ ≡ length his
+    → Gives (unrefused (ticked (world m t [] [] his))) Done m′ t′ [] [] his′ → Tickable m′ t′ his′
 unfolding ticked
-again-tickable m m′ t t′ his his′ o h same g =
+again-tickable m m′ t t′ his his′ h same g =
     record {
       shallow = rw (g .machine) (h .shallow);
       most = rw same (h .most);

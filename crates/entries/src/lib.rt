@@ -1,6 +1,7 @@
 // What one entry of a run's lists does in a tested world: its ticks, then its step.
 ghost use mathlib.Core.List.{List};
 ghost use Prim.Native.Nat.{ℕ};
+ghost use Rattle.rules.specs.declared.Outcome.the-variants.{Done};
 ghost use Rattle.rules.specs.World.{world};
 ghost use Rattle.rules.specs.Run.{tickedBy, unrefused};
 ghost use Rattle.rules.specs.Promise.{Gives};
@@ -11,7 +12,6 @@ ghost use Rattle.ticking.specs.Tickable.{Tickable};
 ghost use Rattle.ways.specs.Steps.{Made};
 use parts::Core;
 use rules::Machine;
-use rules::Outcome;
 use rules::Trail;
 use ticking::Moved;
 use ways::Stepped;
@@ -30,7 +30,7 @@ fn ticks_of(
         ((memory picture : List ℕ) → Gives
         (unrefused
         (tickedBy count (world (whole c (now (v .entry)) (now (stack .entry))) trail memory picture (now (history .entry)))))
-        (r .outcome) (whole (r .core) (now (v .entry)) (now (stack .entry))) (r .trail) memory picture (now (history .exit))) ⌝ }
+        Done (whole (r .core) (now (v .entry)) (now (stack .entry))) (r .trail) memory picture (now (history .exit))) ⌝ }
 {
     let mut c = c;
     let mut t = trail;
@@ -43,11 +43,7 @@ fn ticks_of(
         t = next_trail;
         left -= 1;
     }
-    Moved {
-        outcome: Outcome::Done,
-        core: c,
-        trail: t,
-    }
+    Moved { core: c, trail: t }
 }
 
 // One entry: its ticks, then its step. Most entries have no ticks, and then the state is not handed about for them.

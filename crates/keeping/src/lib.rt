@@ -170,24 +170,33 @@ pub fn keep(
     );
 }
 
-// Lays the bytes that are about to change into that record: a part of memory, or whole rows, straight from where they stand.
-pub fn keep_old(history: &mut [u8], next: usize, change: Change, memory: &[u8], rows: &[u64])
-    requires { ⌜ (placeSize * next + placeSize ≤ length (now history)) × Reaches change (now memory) (now rows) ⌝ }
-    ensures { λ _. ⌜ now (history .exit) ≡ over (now (history .entry)) (placeSize * next + atOld)
+// Lays the bytes that are about to change into a place: a part of memory, or whole rows, straight from where they stand.
+fn lay_old(place: &mut [u8], change: Change, memory: &[u8], rows: &[u64])
+    requires { ⌜ (length (now place) ≡ placeSize) × Reaches change (now memory) (now rows) ⌝ }
+    ensures { λ _. ⌜ now (place .exit) ≡ over (now (place .entry)) atOld
         (old change (now (memory .entry)) (bytesOf (now (rows .entry)))) (count change) ⌝ }
 {
-    let at = PLACE * next + AT_OLD;
     match change {
         Change::Nothing => {}
         Change::InMemory(start, count) => {
             let from = start as usize;
             let to = from + count as usize;
-            memory::lay(history, at, &memory[from..to]);
+            memory::lay(place, AT_OLD, &memory[from..to]);
         }
         Change::InPicture(start, count) => {
-            picture::lay_rows(history, at, rows, start as usize / 8, count as usize / 8);
+            picture::lay_rows(place, AT_OLD, rows, start as usize / 8, count as usize / 8);
         }
     }
+}
+
+// Lays them into the record that was written into the place `next` of a history.
+pub fn keep_old(history: &mut [u8], next: usize, change: Change, memory: &[u8], rows: &[u64])
+    requires { ⌜ (placeSize * next + placeSize ≤ length (now history)) × Reaches change (now memory) (now rows) ⌝ }
+    ensures { λ _. ⌜ now (history .exit) ≡ over (now (history .entry)) (placeSize * next + atOld)
+        (old change (now (memory .entry)) (bytesOf (now (rows .entry)))) (count change) ⌝ }
+{
+    let at = PLACE * next;
+    lay_old(&mut history[at..at + PLACE], change, memory, rows);
 }
 
 // Writes the record of an action that changes the state alone.

@@ -52,6 +52,10 @@ module _ (pattern : List ℕ) (column row : ℕ) where
     whole : (e : ℕ) → e ≤ 32 → ((y : ℕ) → e ≤ y → y < 32 → row + length pattern ≤ y) → summed f e ≡ summed f 32
     whole e h beneath = sym (summed-skip f e 32 h (λ y l m. none y (mask-beneath pattern column row y (beneath y l m))))
 
+  -- a sum that is none above the pattern is one from its first row on
+  begun : (f : ℕ → ℕ) (end n : ℕ) → row ≤ end → 0 ≡ summed f row → n ≡ between f row end → n ≡ summed f end
+  begun f end n low none is = rw zero-add at (summed-on f f row end 0 n low (λ y h. refl) none is)
+
   module _ (rows : List ℕ) where
     meets-none : (y : ℕ) → maskAt pattern column row y ≡ 0 → metAt pattern column row rows y ≡ 0
     meets-none y e = rw (e, and-zero-r, ones-zero)
@@ -71,7 +75,16 @@ module _ (pattern : List ℕ) (column row : ℕ) where
       shows ∙ whole _ shows-none e h beneath ∙ sym (all-is small (bytesOf rows)),
     )
 
-    -- counted in the upper rows, and then in the lower ones, which stand as they stood
+    -- counted from the pattern's first row on
+    pub once-counted : ((k : ℕ) → getD pattern k 0 < 256) → (end dark all : ℕ) → row ≤ end → end ≤ 32
+        → ((y : ℕ) → end ≤ y → y < 32 → row + length pattern ≤ y)
+        → dark ≡ between (metAt pattern column row rows) row end → all ≡ between (showsAt pattern column row) row end
+        → (dark ≡ darkened pattern column row (bytesOf rows))
+        × (all ≡ lightened pattern column row (bytesOf rows) + darkened pattern column row (bytesOf rows))
+    once-counted small end dark all low inside beneath met shows =
+        all-counted small end dark all inside beneath (begun _ end dark low (none-above .0) met) (begun _ end all low (none-above .1) shows)
+
+    -- the same in two parts, of which the lower one stood as it stood while the upper one was made
     pub both-counted : ((k : ℕ) → getD pattern k 0 < 256) → (after : List ℕ) (middle end dark dark′ all all′ : ℕ) → row ≤ middle → middle ≤ end → end ≤ 32
         → ((y : ℕ) → end ≤ y → y < 32 → row + length pattern ≤ y) → ((y : ℕ) → middle ≤ y → getD after y 0 ≡ getD rows y 0)
         → dark ≡ between (metAt pattern column row rows) row middle → dark′ ≡ between (metAt pattern column row after) middle end
@@ -84,6 +97,5 @@ module _ (pattern : List ℕ) (column row : ℕ) where
         let stands : (y : ℕ) → middle ≤ y → metAt pattern column row after y ≡ m y =
         λ y h. ap (λ (n : ℕ). ones (bitAnd n (maskAt pattern column row y))) (same y h) in
         all-counted small end _ _ inside beneath
-        (summed-on m (metAt pattern column row after) middle end dark dark′ low stands
-        (rw zero-add at (summed-on m m row middle 0 dark up (λ y h. refl) (none-above .0) met)) met′)
-        (summed-on s s middle end all all′ low (λ y h. refl) (rw zero-add at (summed-on s s row middle 0 all up (λ y h. refl) (none-above .1) shows)) shows′)
+        (summed-on m (metAt pattern column row after) middle end dark dark′ low stands (begun m middle dark up (none-above .0) met) met′)
+        (summed-on s s middle end all all′ low (λ y h. refl) (begun s middle all up (none-above .1) shows) shows′)

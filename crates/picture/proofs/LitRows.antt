@@ -18,22 +18,27 @@ use Rattle.picture.proofs.Sums.{sum-rows}
 lit-rows : (rows : List ℕ) → ((y : ℕ) → getD rows y 0 < 2 ^ 64) → litSpots (bytesOf rows) ≡ summed (λ k. ones (getD rows k 0)) 32
 lit-rows rows small = lit-sum (bytesOf rows) ∙ sum-rows (spot (bytesOf rows)) (λ k. getD rows k 0) small (λ x y h l. spot-is rows x y h)
 
--- lit spots are counted in the rows above y
-pub record LitAbove (rows : List ℕ) (y lit : ℕ) : Type 0 where
-  pub is : lit ≡ summed (λ k. ones (getD rows k 0)) y
-  pub few : lit ≤ 64 * y
+-- spots are counted in the rows above y, f k of them in row k
+pub record CountedAbove (f : ℕ → ℕ) (y n : ℕ) : Type 0 where
+  pub is : n ≡ summed f y
+  pub few : n ≤ 64 * y
 
-module _ (rows : List ℕ) where
-  pub no-row : LitAbove rows 0 0
+module _ (f : ℕ → ℕ) where
+  pub no-row : CountedAbove f 0 0
   unfolding summed
   no-row = record { is = refl; few = omega arith }
 
-  pub row-more : (y lit n : ℕ) → LitAbove rows y lit → n ≡ ones (getD rows y 0) → n ≤ 64 → LitAbove rows (y + 1) (lit + n)
+  pub row-more : (y n m : ℕ) → CountedAbove f y n → m ≡ f y → m ≤ 64 → CountedAbove f (y + 1) (n + m)
   unfolding summed
-  row-more y lit n l e h = record { is = rw add-one (ap₂ _+_ (l .is) e); few = omega (arith, l .few) }
+  row-more y n m l e h = record { is = rw add-one (ap₂ _+_ (l .is) e); few = omega (arith, l .few) }
 
-  pub all-rows : ((y : ℕ) → getD rows y 0 < 2 ^ 64) → (y lit : ℕ) → LitAbove rows y lit → y ≡ 32 → (lit ≡ litSpots (bytesOf rows)) × (lit ≤ 2048)
-  all-rows small y lit l e = (rw e at (l .is) ∙ sym (lit-rows rows small), omega (arith, l .few))
+-- the lit spots of each row
+abbrev pub litRow : List ℕ → ℕ → ℕ
+litRow rows k = ones (getD rows k 0)
+
+pub all-rows : (rows : List ℕ) → ((y : ℕ) → getD rows y 0 < 2 ^ 64) → (y lit : ℕ) → CountedAbove (litRow rows) y lit → y ≡ 32
+    → (lit ≡ litSpots (bytesOf rows)) × (lit ≤ 2048)
+all-rows rows small y lit l e = (rw e at (l .is) ∙ sym (lit-rows rows small), omega (arith, l .few))
 
 -- the row that is laid next still stands
 pub next-stands : (r s q : List ℕ) (n y : ℕ) → Laid r 0 s n q y → getD q y 0 ≡ getD r y 0

@@ -1,4 +1,5 @@
--- The proofs of what Equal claims, and the laws of a run's entries.
+-- The proofs of what Equal and Kept claim, and the laws of a run's entries.
 pub mod Beside
 pub mod Equal
 pub mod Entries
+pub mod Kept

@@ -2,3 +2,4 @@
 pub mod Gone
 pub mod Plain
 pub mod Equal
+pub mod Kept

@@ -102,7 +102,7 @@ module _ (moves keys randoms : List ℕ) (w : World) where
 
   pub play-told : TypedBoard (boardOf w) → Below 65536 keys → Below 256 randoms → Start w → (m : Machine) (t : Trail) (mem pic his : List ℕ) (o : Outcome)
       → Gives (playFrom (movesOf moves keys randoms) (unrefused w)) o m t mem pic his
-      → let r = places (w .history) in Told r (world m t mem pic his) (follow r (movesOf moves keys randoms) w (first w))
+      → Told w (world m t mem pic his) (follow (places (w .history)) (movesOf moves keys randoms) w (first w))
   play-told typed ks rs s m t mem pic his o g =
       rw (gives-world (playFrom (movesOf moves keys randoms) (unrefused w)) o m t mem pic his g)
       (steps-back w typed s (movesOf moves keys randoms) (plays-typed moves keys randoms ks rs))

@@ -18,7 +18,6 @@ use Rattle.rules.proofs.Choices.{by-test, and-both, passed}
 use Rattle.rules.proofs.Parts.{zeroes, below-append, below-zeros}
 use Rattle.rules.proofs.Sound.{end-good}
 use Rattle.rules.proofs.Ready.{fits-passed}
-use Rattle.rules.proofs.Lit.{lit-none}
 
 allBelow : ℕ → List ℕ → Bool
 allBelow n [] = true
@@ -78,7 +77,6 @@ loaded-starts edition end program history h fits least most =
         next = rw long (omega arith);
         kept = refl;
         ahead = refl;
-        lit = rw lit-none;
       },
     )
 

@@ -270,9 +270,9 @@ module _ (r : ℕ) (w : World) (p : Past) (hold : Holds r w p) where
   move-holds aBack typed = settled (backRefusal w) (undone (lastRecord w) w) (noted r aBack p) back-holds
   move-holds aForward typed = settled (forwardRefusal w) (redone (actionAt (nextRecord w)) w) (noted r aForward p) forward-holds
 
-told : (r : ℕ) (w : World) (p : Past) → Holds r w p → TrueLit w → Told r w p
+told : (start w : World) (p : Past) → Holds (places (start .history)) w p → (TrueLit start → TrueLit w) → Told start w p
 unfolding back forward
-told r w p h t =
+told start w p h t =
     record {
       finger = h .finger;
       lit = t;
@@ -280,8 +280,8 @@ told r w p h t =
       ahead = h .ahead;
       above = h .above;
       most = omega (arith, h .ready .limit, h .room);
-      back = answer-number (backRefusal w) _ w ∙ back-is r w p h;
-      forward = answer-number (forwardRefusal w) _ w ∙ forward-is r w p h;
+      back = answer-number (backRefusal w) _ w ∙ back-is _ w p h;
+      forward = answer-number (forwardRefusal w) _ w ∙ forward-is _ w p h;
     }
 
 start-holds : (w : World) → TypedBoard (boardOf w) → Start w → Holds (places (w .history)) w (first w)
@@ -305,5 +305,4 @@ all-holds r (m ∷ ms) typed a p h = all-holds r ms (typed .1) (made m (a .world
 
 pub steps-back : StepsBack
 steps-back w t s moves typed =
-    let r = places (w .history) in
-    told r _ _ (all-holds r moves typed (unrefused w) _ (start-holds w t s)) (plays-last TrueLit lit-lasts moves (unrefused w) (s .lit))
+    told w _ _ (all-holds _ moves typed (unrefused w) _ (start-holds w t s)) (plays-last TrueLit lit-lasts moves (unrefused w))

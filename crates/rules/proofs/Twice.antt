@@ -25,6 +25,7 @@ use Rattle.rules.specs.Twice.{DrawnTwice, EitherOrder, DrawsTwice, Draws
 use Rattle.rules.proofs.Choices.{by-test}
 use Rattle.rules.proofs.Good.{Bytes}
 use Rattle.rules.proofs.Drawn.{shown-lit}
+use Rattle.rules.proofs.Lit.{far-kept}
 use Rattle.rules.proofs.Spots.{spot-lit, by-spot, by-spots, drawn-spot, bytes-same, sum-same, whole, sum-is-some}
 use Rattle.rules.proofs.Ready.{Ready, accepted-ready, step-accepted, ready-typed, step-ready}
 
@@ -173,17 +174,16 @@ draws-twice x y n hx hy w u keys random keys′ random′ typed typed′ d left 
     let vy : reg (u .machine) y ≡ reg (w .machine) y = left .vy ∙ drew-reg w keys random d y (λ e. omega arith) in
     let picture = left .picture ∙ drew-picture w keys random d in
     let put = put-back (patternAt n w) (column (w .machine) x) (row (w .machine) y) (w .picture) (draws-ready w typed d .good .picture) in
-    let back : (step keys′ random′ u) .world .picture ≡ w .picture =
-    drew-picture u keys′ random′ d′ ∙ rw (pattern, vx, vy, picture) (put .back) in
     record {
-      picture = back;
-      lit = ap litSpots back;
+      picture = drew-picture u keys′ random′ d′ ∙ rw (pattern, vx, vy, picture) (put .back);
       first = drew-flag w keys random d (typed .machine .vs) (put .first);
       second = drew-flag u keys′ random′ d′ (typed′ .machine .vs) (rw (pattern, vx, vy, picture) (put .second));
     }
 
 pub draws-again : DrawsAgain
 draws-again x y n hx hy w keys random keys′ random′ typed d d′ =
-    let ready = draws-ready w typed d in
-    draws-twice x y n hx hy w _ keys random keys′ random′ typed (ready-typed _ (step-ready w ready keys random)) d
-    (record { pattern = refl; vx = refl; vy = refl; picture = refl }) d′
+    let one = (step keys random w) .world in
+    let erases =
+    draws-twice x y n hx hy w one keys random keys′ random′ typed (ready-typed _ (step-ready w (draws-ready w typed d) keys random)) d
+    (record { pattern = refl; vx = refl; vy = refl; picture = refl }) d′ in
+    (erases, omega (arith, far-kept .step keys random w, far-kept .step keys′ random′ one, ap litSpots (erases .picture)))

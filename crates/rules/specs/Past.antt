@@ -74,24 +74,24 @@ first w = record { finger = boardOf w; below = []; above = []; kept = 0; ahead =
 
 -- ---- where it starts, and what is told of the world after any moves
 
--- a sound state with a true number of lit spots, buffers of the right sizes, and an empty history: kept 0 and ahead 0
+-- any sound state, buffers of the right sizes, and an empty history: kept 0 and ahead 0
 pub record Start (w : World) : Type 0 where
   pub fits : buffersFit w ≡ true
   pub sound : sound (w .machine) ≡ true
   pub next : w .trail .next < places (w .history)
   pub kept : w .trail .kept ≡ 0
   pub ahead : w .trail .ahead ≡ 0
-  pub lit : TrueLit w
 
--- the board is the one at the finger, and its number of lit spots is true; kept and ahead are the list's, with as many boards above
--- the finger, and together at most r; back is refused, by 7, exactly where kept is 0, and forward, by 12, exactly where ahead is 0
-pub record Told (r : ℕ) (w : World) (p : Past) : Type 0 where
+-- the board is the one at the finger, and its number of lit spots is true if the start's was; kept and ahead are the list's, with as
+-- many boards above the finger, and together at most R; back is refused, by 7, exactly where kept is 0, and forward, by 12, exactly
+-- where ahead is 0
+pub record Told (start w : World) (p : Past) : Type 0 where
   pub finger : boardOf w ≡ p .finger
-  pub lit : TrueLit w
+  pub lit : TrueLit start → TrueLit w
   pub kept : w .trail .kept ≡ p .kept
   pub ahead : w .trail .ahead ≡ p .ahead
   pub above : w .trail .ahead ≡ length (p .above)
-  pub most : w .trail .kept + w .trail .ahead ≤ r
+  pub most : w .trail .kept + w .trail .ahead ≤ places (start .history)
   pub back : (back w) .refusal ≡ pick (eqb (w .trail .kept) 0) (numberOf NothingKept) 0
   pub forward : (forward w) .refusal ≡ pick (eqb (w .trail .ahead) 0) (numberOf NothingAhead) 0
 
@@ -99,7 +99,7 @@ pub record Told (r : ℕ) (w : World) (p : Past) : Type 0 where
 abbrev pub PlayTells : List ℕ → List ℕ → List ℕ → World → World → Type 0
 PlayTells moves keys randoms w w′ =
     Start w → listsFit moves keys randoms ≡ true → allMoves moves ≡ true
-    → let r = places (w .history) in Told r w′ (follow r (movesOf moves keys randoms) w (first w))
+    → Told w w′ (follow (places (w .history)) (movesOf moves keys randoms) w (first w))
 
 -- ---- the moves of a run: for each entry its ticks, then its step, up to and including the step that ends it
 
@@ -120,7 +120,7 @@ movesRun (t ∷ ts) (k ∷ ks) [] w = []
 abbrev pub StepsBack : Type 0
 StepsBack =
     (w : World) → TypedBoard (boardOf w) → Start w → (moves : List Move) → TypedMoves moves
-    → let r = places (w .history) in Told r ((playFrom moves (unrefused w)) .world) (follow r moves w (first w))
+    → Told w ((playFrom moves (unrefused w)) .world) (follow (places (w .history)) moves w (first w))
 
 -- a run gives what a play of its moves gives, so what is told of a play is told of a run
 abbrev pub RunsPlay : Type 0
@@ -133,7 +133,7 @@ abbrev pub RunsTyped : Type 0
 RunsTyped =
     (ticks keys randoms : List ℕ) (w : World) → Below 65536 keys → Below 256 randoms → TypedMoves (movesRun ticks keys randoms w)
 
--- an accepted load gives such a start
+-- an accepted load gives such a start, and its number of lit spots is true (`LoadLit` of Lit)
 abbrev pub LoadStarts : Type 0
 LoadStarts =
     (edition : Edition) (end : ℕ) (program memory picture history : List ℕ) → Below 256 program

@@ -6,7 +6,7 @@ use Prim.Native.Nat.{ℕ, _<_}
 use lib.ListN.{length}
 use Rattle.rules.specs.declared.Op.the-variants.{Draw}
 use Rattle.rules.specs.State.{pictureSize, reg}
-use Rattle.rules.specs.Picture.{spot, shown, drawn, darkened, lightened, litSpots}
+use Rattle.rules.specs.Picture.{spot, shown, drawn, darkened, lightened}
 use Rattle.rules.specs.Memory.{part}
 use Rattle.rules.specs.Step.{column, row}
 use Rattle.rules.specs.World.{World, boardOf}
@@ -73,11 +73,10 @@ pub record Flags (w : World) (That : Type 0) : Type 0 where
   pub one : (reg (w .machine) 0xF ≡ 1) ↔ That
   pub else : (That → ⊥) → reg (w .machine) 0xF ≡ 0
 
--- the DXYN at w led to `one`, and the second one to `two`: the picture and the number of its lit spots are as they were, VF of the first is
--- 1 exactly if some shown 1 bit met a lit spot, and VF of the second exactly if some had met a dark one
+-- the DXYN at w led to `one`, and the second one to `two`: the picture is as it was, VF of the first is 1 exactly if some shown 1 bit met
+-- a lit spot, and VF of the second exactly if some had met a dark one
 pub record Erases (x y n : ℕ) (w one two : World) : Type 0 where
   pub picture : two .picture ≡ w .picture
-  pub lit : litSpots (two .picture) ≡ litSpots (w .picture)
   pub first : Flags one (At MeetsLit x y n w)
   pub second : Flags two (At MeetsDark x y n w)
 
@@ -103,10 +102,11 @@ DrawsTwice =
     → let one = (step keys random w) .world in let two = (step keys′ random′ u) .world in
     Draws x y n w → Undisturbed x y n one u → Draws x y n u → Erases x y n w one two
 
--- and where nothing stands between them, since a DXYN leaves I, memory, VX and VY
+-- and where nothing stands between them, since a DXYN leaves I, memory, VX and VY; then the state's number of lit spots comes back too,
+-- true or not
 abbrev pub DrawsAgain : Type 0
 DrawsAgain =
     (x y n : ℕ) → OtherThanF x → OtherThanF y
     → (w : World) (keys random keys′ random′ : ℕ) → TypedBoard (boardOf w)
     → let one = (step keys random w) .world in let two = (step keys′ random′ one) .world in
-    Draws x y n w → Draws x y n one → Erases x y n w one two
+    Draws x y n w → Draws x y n one → Erases x y n w one two × (two .machine .lit ≡ w .machine .lit)

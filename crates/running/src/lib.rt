@@ -102,8 +102,8 @@ fn run_ready(
         let Outcome::Done = outcome else {
             return ran(i, dark, copied, outcome, c, v, stack, t);
         };
-        dark = added(dark, moved.dark, moved.copied);
         copied = added(copied, moved.copied, moved.copied);
+        dark = added(dark, moved.dark, moved.copied);
         i += 1;
     }
     ran(i, dark, copied, Outcome::Done, c, v, stack, t)

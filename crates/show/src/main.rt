@@ -9,20 +9,20 @@ use rules::Edition;
 use rules::Machine;
 use stepper::Switch;
 
-// Whether argument k is the option with that letter behind its two dashes.
-fn is_option(k: usize, letter: u8) -> bool {
-    let mut word = [0u8; 16];
-    os::arg(k, &mut word);
-    word[2] == letter
+// Whether argument k is that word.
+fn is_word(k: usize, word: &[u8]) -> bool {
+    let mut given = [0u8; 16];
+    let size = os::arg(k, &mut given);
+    check::same(&given[..size], word)
 }
 
-// The same of one of the two that there can be.
-fn has_option(letter: u8) -> bool {
-    is_option(1, letter) | is_option(2, letter)
+// The same of one of the two arguments that there can be.
+fn has_option(word: &[u8]) -> bool {
+    is_word(1, word) | is_word(2, word)
 }
 
 fn end_of_memory() -> u16 {
-    if has_option(b'2') {
+    if has_option(b"--2k") {
         return Machine::SMALL_END as u16;
     }
     Machine::MEMORY as u16
@@ -84,7 +84,7 @@ fn main() {
     stepper::draw(machine, &mut page);
     let game = glass_of(Switch::Game, &picture, &page);
     let variables = glass_of(Switch::Variables, &picture, &page);
-    blocks::write(&game, &variables, has_option(b'v'));
+    blocks::write(&game, &variables, has_option(b"--variables"));
     blocks::write_lit(machine.lit);
     blocks::write_stop(ran);
 }

@@ -1,6 +1,7 @@
 // A tick of a world that passed the tests 9 and 10.
 ghost use mathlib.Core.List.{List};
 ghost use Prim.Native.Nat.{ℕ};
+ghost use Rattle.rules.specs.declared.Outcome.the-variants.{Done};
 ghost use Rattle.rules.specs.World.{world};
 ghost use Rattle.rules.specs.Call as rule;
 ghost use Rattle.rules.specs.Run.{unrefused};
@@ -10,12 +11,10 @@ ghost use Rattle.ticking.specs.Tickable.{Tickable};
 use parts::Core;
 use rules::Action;
 use rules::Machine;
-use rules::Outcome;
 use rules::Trail;
 
-// What a tick hands back beside what is lent: what came of it, the core, and the history's numbers.
+// What ticks hand back beside what is lent: the core, and the history's numbers.
 pub struct Moved {
-    pub outcome: Outcome,
     pub core: Core,
     pub trail: Trail,
 }
@@ -33,14 +32,13 @@ pub fn tick(
         ((memory picture : List ℕ) → Gives
         (unrefused
         (rule.ticked
-        (world (whole c (now (v .entry)) (now (stack .entry))) trail memory picture (now (history .entry))))) (r .outcome)
+        (world (whole c (now (v .entry)) (now (stack .entry))) trail memory picture (now (history .entry))))) Done
         (whole (r .core) (now (v .entry)) (now (stack .entry))) (r .trail) memory picture (now (history .exit))) ⌝ }
 {
     let places = fitting::places(history);
     let at = trail.next;
     keeping::keep_state(history, at, c, v, stack, Action::Tick);
     Moved {
-        outcome: Outcome::Done,
         core: clock::tick(c),
         trail: trail::grown(trail, places),
     }

@@ -1,2 +1,3 @@
--- What the test of the lengths tells.
+-- What the test of the lengths tells, and that the promises are tight.
 pub mod Lengths
+pub mod OnlyOne

@@ -15,13 +15,6 @@ fn both_fit(picture: &[u8], rows: &[u64]) -> bool
     (picture.len() == Machine::PICTURE) & (rows.len() == Machine::ROWS)
 }
 
-// A byte of a slice is widened by a call, so that it needs no proof that it fits.
-fn wide(x: u8) -> u64
-    ensures { λ r. ⌜ r ≡ x ⌝ }
-{
-    x as u64
-}
-
 // The row that the eight bytes from k on make, the first one highest.
 fn row_at(picture: &[u8], k: usize) -> u64
     requires { ⌜ k + 8 ≤ length (now picture) ⌝ }
@@ -30,7 +23,7 @@ fn row_at(picture: &[u8], k: usize) -> u64
     let mut n = 0;
     let mut j = 0;
     while j < 8 {
-        n = (n << 8) | wide(picture[k + j]);
+        n = (n << 8) | picture::wide(picture[k + j]);
         j += 1;
     }
     n

@@ -174,16 +174,19 @@ back keys random c v stack t mem pic his o gives dark copied =
 pub reached-as : {op same : Op} {w : World} → op ≡ same → Reached op w → Reached same w
 reached-as e r = record { ready = r .ready; near = r .near; there = sym e ∙ r .there }
 
-module _ (w : World) (op : Op) (r : Reached op w) where
-  -- and so does one whose instruction is refused
-  pub reached-refused : (keys random : ℕ) (f : Refusal) → number (Refused f) ≡ verdict w (r .ready) op
-      → Back (step keys random w) (Refused f) w × (stepDark w ≡ 0) × (stepCopied w ≡ 0)
-  reached-refused keys random f says = (
-    judged-refused w (r .ready) op f (r .there) (r .near) says keys random,
-    judged-dark w (r .ready) op f (r .there) (r .near) says,
-    judged-copied w (r .ready) op f (r .there) (r .near) says,
-  )
+-- and so does one whose instruction is refused
+pub reached-back : (keys random : ℕ) (c : Core) (v stack : List ℕ) (t : Trail) (mem pic his : List ℕ) (op : Op) (f : Refusal)
+    → let w = world (whole c v stack) t mem pic his in
+    (r : Reached op w) → number (Refused f) ≡ verdict w (r .ready) op
+    → Made keys random w (record { outcome = Refused f; core = c; trail = t; dark = 0; copied = 0 }) v stack mem pic his
+reached-back keys random c v stack t mem pic his op f r says =
+    let w = world (whole c v stack) t mem pic his in
+    back keys random c v stack t mem pic his (Refused f)
+    (judged-refused w (r .ready) op f (r .there) (r .near) says keys random)
+    (judged-dark w (r .ready) op f (r .there) (r .near) says)
+    (judged-copied w (r .ready) op f (r .there) (r .near) says)
 
+module _ (w : World) (op : Op) (r : Reached op w) where
   pub made : verdict w (r .ready) op ≡ 0 → (keys random : ℕ) (s : Stepped) (v stack mem pic his : List ℕ)
       → s .outcome ≡ Done
       → Became (acted op keys random (w .machine) (w .memory) (w .picture)) (whole (s .core) v stack) mem pic

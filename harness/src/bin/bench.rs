@@ -11,15 +11,11 @@ use std::fmt;
 use std::hint::black_box;
 use std::time::Instant;
 
-use harness::buffers::{Lent, Lists};
 use harness::card::{self, Archive};
+use harness::desk::{Desk, Program, PROGRAMS};
 use harness::dots::PANEL;
-use harness::engine::{Engine, ACCEPTED, ANSWER};
-use harness::plain::{self, SPOTS};
-use harness::second::{
-    FIRST_EDITION, FULL_END, HISTORY_MOST, IMAGE, LIST_MOST, MEMORY, PICTURE, PLACE, ROWS,
-    SECOND_EDITION,
-};
+use harness::plain::SPOTS;
+use harness::second::{HISTORY_MOST, LIST_MOST, PICTURE, PLACE};
 use harness::tuned::Tuned;
 
 const ROUNDS: usize = 8;
@@ -28,52 +24,6 @@ const LISTS_A_TURN: usize = 10;
 const PANELS_A_TURN: usize = 20_000;
 /// The longest history, and a short one.
 const HISTORIES: [usize; 2] = [HISTORY_MOST, 8 * PLACE];
-
-struct Program {
-    name: &'static str,
-    edition: u8,
-    words: &'static [u16],
-}
-
-/// Endless loops of our own, in which no step is ever refused.
-const PROGRAMS: [Program; 5] = [
-    Program {
-        name: "arithmetic",
-        edition: FIRST_EDITION,
-        words: &[
-            0x6001, 0x7103, 0x8014, 0x8125, 0x8231, 0x8302, 0x3400, 0x7405, 0xC5FF, 0x9570, 0x8750,
-            0x1200,
-        ],
-    },
-    Program {
-        name: "second edition",
-        edition: SECOND_EDITION,
-        words: &[
-            0x60A5, 0x8106, 0x8213, 0x8327, 0x843E, 0x8046, 0x8533, 0x8607, 0x876E, 0x7601, 0x1202,
-        ],
-    },
-    Program {
-        name: "drawing",
-        edition: FIRST_EDITION,
-        words: &[
-            0xA000, 0xDAB5, 0x7A07, 0xDAB8, 0x7B05, 0xDABF, 0xDBA5, 0xDBAA, 0x1202,
-        ],
-    },
-    Program {
-        name: "store and fetch",
-        edition: FIRST_EDITION,
-        words: &[
-            0xA600, 0xF755, 0xFF65, 0xFF55, 0xF733, 0xF365, 0x7A01, 0x1200,
-        ],
-    },
-    Program {
-        name: "calls",
-        edition: FIRST_EDITION,
-        words: &[
-            0x2204, 0x1200, 0x2208, 0x00EE, 0x220C, 0x00EE, 0x7001, 0x00EE,
-        ],
-    },
-];
 
 fn main() {
     println!(
@@ -276,92 +226,4 @@ fn clear_places(history: &mut [u8]) {
         }
     }
     black_box(history);
-}
-
-/// What a host holds that works on rows.
-struct Host {
-    image: Vec<u8>,
-    memory: Vec<u8>,
-    rows: Vec<u64>,
-    history: Vec<u8>,
-}
-
-impl Host {
-    fn lend(&mut self) -> Lent<'_, u64> {
-        Lent {
-            image: &mut self.image,
-            memory: &mut self.memory,
-            picture: &mut self.rows,
-            history: &mut self.history,
-        }
-    }
-}
-
-/// A loaded machine with an engine and its lists.
-struct Desk<'a, E> {
-    engine: &'a E,
-    host: Host,
-    ticks: Vec<u8>,
-    keys: Vec<u16>,
-    randoms: Vec<u8>,
-}
-
-impl<E: Engine<u64>> Desk<'_, E> {
-    fn new<'a>(program: &Program, history_length: usize, engine: &'a E) -> Desk<'a, E> {
-        let mut desk = Desk {
-            engine,
-            host: Host {
-                image: vec![0; IMAGE],
-                memory: vec![0; MEMORY],
-                rows: vec![0; ROWS],
-                history: vec![0; history_length],
-            },
-            ticks: vec![0; LIST_MOST],
-            keys: vec![0; LIST_MOST],
-            randoms: (0..LIST_MOST).map(|entry| entry as u8).collect(),
-        };
-        let words = program.words.iter();
-        let bytes: Vec<u8> = words.flat_map(|word| word.to_be_bytes()).collect();
-        let refusal = engine.load(desk.host.lend(), &bytes, program.edition, FULL_END);
-        assert_eq!(refusal, 0, "a program of the measurements is loaded");
-        desk
-    }
-
-    fn run(&mut self) {
-        let mut answer = [0; ANSWER];
-        let lists = Lists {
-            first: &self.ticks,
-            keys: &self.keys,
-            randoms: &self.randoms,
-        };
-        let refusal = self.engine.run(self.host.lend(), lists, &mut answer);
-        assert_eq!((refusal, answer[ACCEPTED]), (0, LIST_MOST as u64));
-    }
-
-    fn run_plainly(&mut self, spots: &mut [u8]) {
-        let mut answer = [0; ANSWER];
-        let lists = Lists {
-            first: &self.ticks,
-            keys: &self.keys,
-            randoms: &self.randoms,
-        };
-        let lent = plain::Lent {
-            image: &mut self.host.image,
-            memory: &mut self.host.memory,
-            spots,
-        };
-        let refusal = card::plain(lent, lists, &mut answer);
-        assert_eq!((refusal, answer[ACCEPTED]), (0, LIST_MOST as u64));
-    }
-
-    fn steps(&mut self) {
-        let mut answer = [0; ANSWER];
-        for entry in 0..LIST_MOST {
-            let (keys, random) = (self.keys[entry], self.randoms[entry]);
-            let refusal = self
-                .engine
-                .step(self.host.lend(), keys, random, &mut answer);
-            assert_eq!((refusal, answer[ACCEPTED]), (0, 1));
-        }
-    }
 }

@@ -65,10 +65,10 @@ loop-again c =
     let fits : mask < 2 ^ 64 = omega arith in
     let columns : Columns (a .column) mask = rw (masked .mask-of .ensures) (mask-columns (p .result) (a .column) (p .ensures .1) (s .pre .0 .1)) in
     let bytes = rw (n .there) at (row-part (a .rows .now) (a .from) (a .to - a .from) (l .y - a .from) (n .among) (rw (s .pre .0 .0) (n .whole))) in (
-      rw (c .before .gather .ensures)
+      rw (c .gather2 .ensures)
           (one-more (a .column) _ (a .from) (l .y) (l .met) (bitAnd row mask) (l .inv .0) (l .inv .3) (n .room)
           (lt-of-le-of-lt (and-le-r row mask) fits) (and-columns row mask (a .column) columns) (ap₂ (λ (r m : ℕ). ones (bitAnd r m)) stands is)),
-      rw (c .gather2 .ensures)
+      rw (c .before .gather .ensures)
           (one-more (a .column) _ (a .from) (l .y) (l .shown) mask (l .inv .1) (l .inv .3) (n .room) fits columns (ap ones is)),
       one-turned (a .pattern .now) (a .column) (a .row) (a .from) (a .rows .now) (l .y) mask (l .rows) (l .inv .2) (l .inv .3) (rw (s .pre .0 .0) (n .inside)) is,
       n .on,

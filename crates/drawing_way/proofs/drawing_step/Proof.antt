@@ -10,7 +10,7 @@ use Rattle.rules.specs.declared.Op.the-variants.{Draw}
 use Rattle.rules.specs.declared.Machine.{Machine}
 use Rattle.rules.specs.Refusal.{number}
 use Rattle.rules.specs.Memory.{over}
-use Rattle.rules.specs.Step.{refusalOf, changeOf, after, column, row, reach}
+use Rattle.rules.specs.Step.{refusalOf, changeOf, after, column, row, reach, rowBytes}
 use Rattle.rules.specs.Dark.{darkOf}
 use Rattle.rules.specs.World.{World, world}
 use Rattle.rules.specs.Rows.{bytesOf}
@@ -18,7 +18,8 @@ use Rattle.rules.proofs.Choices.{both-zero}
 use Rattle.rules.proofs.Turning.{picture-rows}
 use Rattle.parts.specs.Whole.{whole}
 use Rattle.act.proofs.Laws.{draw-reach, draw-passes}
-use Rattle.ways.proofs.OneStep.{verdict, in-range, place-inside, back, reached-refused, step-kept, made}
+use Rattle.keeping.proofs.Inside.{lent-inside}
+use Rattle.ways.proofs.OneStep.{verdict, in-range, place-inside, reached-back, step-kept, made}
 use Rattle.drawing_way.proofs.Pattern.{fits, rows-old, pattern-length}
 use Rattle.drawing_way.proofs.drawing_step.Statement.{statement}
 use Rattle.drawing_way.proofs.drawing_step.Tie as tie
@@ -71,8 +72,8 @@ returns c =
     let s = start (placed judged) in
     let a = s .args in
     let told = c .before .enum-told2 .given in
-    let (gives, dark, copied) = reached-refused (given s) (op s) (s .pre) (a .keys) (a .random) (told .0 .0) (sym (ap number (told .1)) ∙ says judged) in
-    rw (c .refused .ensures, told .1) (back (a .keys) (a .random) (a .c) (a .v .now) (a .stack .now) (a .trail) (a .memory .now) (bytesOf (a .rows .now)) (a .history .now) _ gives dark copied)
+    rw (c .refused .ensures, told .1)
+    (reached-back (a .keys) (a .random) (a .c) (a .v .now) (a .stack .now) (a .trail) (a .memory .now) (bytesOf (a .rows .now)) (a .history .now) (op s) _ (s .pre) (sym (ap number (told .1)) ∙ says judged))
 
 -- what the judgement leaves
 abbrev allowed-at : tie.After-enum-told → tie.After-row-of
@@ -96,6 +97,10 @@ keep-requires c κs =
 abbrev told : tie.After-slice-known3 → tie.After-enum-told
 told c = c .before .before .before .before .before .before .before .before
 
+-- its place is inside the history
+room : (c : tie.After-slice-known3) → 292 * start (allowed-at (told c)) .args .trail .next + 292 ≤ length (c .before .before .keep .last .0)
+room c = let s = start (allowed-at (told c)) in omega (arith, place-inside (given s) (s .pre .ready), c .before .history .given)
+
 pattern-requires : tie.Need-pattern-requires
 pattern-requires c κs = (within (told c), start (allowed-at (told c)) .pre .ready .good .memory .size)
 
@@ -105,6 +110,9 @@ pattern-is c =
     let s = start (allowed-at (told (c .before))) in
     rw (c .pattern .ensures)
     (pattern-length (s .args .memory .now) (s .args .c .i) (s .args .n) (s .pre .ready .good .memory .size) (within (told (c .before))))
+
+add-draw : tie.Need-add-draw
+add-draw c = let s = start (allowed-at (told (c .before .before .before))) in omega (arith, place-inside (given s) (s .pre .ready))
 
 grown-requires : tie.Need-grown-requires
 grown-requires c κs =
@@ -126,7 +134,7 @@ draw-requires c κs =
       sized s,
       omega (arith, long, short s),
       rw (drawn .pattern .ensures) (rw (← column-is at, ← row-is at) at (draw-passes (op s) (machine s) (a .memory .now) (bytesOf (a .rows .now)) passes _ _ _ refl)),
-      omega (arith, place-inside (given s) (s .pre .ready), drawn .before .before .history .given),
+      omega (arith, room (drawn .before)),
     )
 
 returns-2 : tie.Need-returns-2
@@ -148,7 +156,10 @@ returns-2 c =
     let (olds, many) = rows-old (a .n) (row (machine s) (a .y)) (a .memory .now) P in
     let drawn = drawing .draw .ensures in
     let long = pattern-is pattern in
-    let laid = rw (row-is at, long) at (drawn .1 .1 .1) ∙ sym (ap₂ (λ (l : List ℕ) (k : ℕ). over (kept .keep .last .0) (292 * a .trail .next + 32) l k) olds many) in
+    let few : 32 + rowBytes (a .n) (row (machine s) (a .y)) ≤ 292 = omega (arith, short s) in
+    let laid =
+    lent-inside (292 * a .trail .next) 292 (kept .keep .last .0) _ _ 32 _ (room (pattern .before)) few (rw (row-is at, long) at (drawn .1 .1 .1))
+    ∙ sym (ap₂ (λ (l : List ℕ) (k : ℕ). over (kept .keep .last .0) (292 * a .trail .next + 32) l k) olds many) in
     let written = step-kept w (r .ready) (op s) (r .there) (r .near) (passed judged) (a .rows .now) _ _ (Step (a .keys) (a .random)) (sized s) (rw change at (kept .keep .ensures)) laid in
     made w (op s) r (passed judged) (a .keys) (a .random) _ _ _ _ _ _ refl
     (rw (← pattern .pattern .ensures, ← column-is at, ← row-is at) (record { machine = drawn .1 .0 _; memory = refl; picture = drawn .0 }))
@@ -159,5 +170,5 @@ pub drawing-step-spec : {M : Type 1} → statement M
 drawing-step-spec =
     tie.close
     (tie.spec (λ c. omega arith) (λ c. omega arith) (λ c. omega arith) (λ c. omega arith) drawable-requires (λ c. omega arith) (λ c. omega arith) (λ c. omega arith)
-    (λ c. omega arith) returns (λ c. omega arith) (λ c. omega arith) keep-requires (λ c. omega arith) (λ c. omega arith) pattern-requires (λ c. omega arith)
-    draw-requires grown-requires (λ c. omega arith) (λ c. omega arith) (λ c. omega arith) (λ c. omega arith) returns-2)
+    (λ c. omega arith) returns (λ c. omega arith) (λ c. omega arith) keep-requires (λ c. omega arith) pattern-requires (λ c. omega arith)
+    add-draw (λ c. omega arith) (λ c. omega arith) (λ c. omega (arith, room (c .before .before .before))) draw-requires grown-requires (λ c. omega arith) (λ c. omega arith) (λ c. omega arith) (λ c. omega arith) returns-2)

@@ -28,7 +28,7 @@ loop-again c =
     let loop = c .before .before .before .before .before .before .before .loop in
     let same : length (tick .last .1 .1 .1 .1 .0) ≡ length (loop .history) = search needs in (
       same ∙ loop .inv .0,
-      again-tickable _ _ _ _ _ _ _ (loop .inv .1) same (tick .ensures [] []),
+      again-tickable _ _ _ _ _ _ (loop .inv .1) same (tick .ensures [] []),
       λ mem pic.
           ap (tickedBy (loop .left - 1)) (gives-world _ _ _ _ _ _ _ (tick .ensures mem pic))
           ∙ sym (one-less (loop .left) _ (c .before .before .before .before .before .before .loop-test .taken)) ∙ loop .inv .2 mem pic,

@@ -60,13 +60,13 @@ added-requires : tie.Need-added-requires Inv-loop μ-loop
 added-requires c κs =
     let inv = c .before .before .before .before .before .before .before .before .before .before .before .before .before .before .before .before .before .before .before .before .loop .inv .3 in
     let entry = c .before .before .before .before .before .before .before .before .before .before .entry .ensures in
-    (λ z. entry .dark ∙ nothing-added _ (sym (entry .copied) ∙ z), omega (arith, inv .spots .few, inv .inside, inv .lists .few, entry .dark-few))
+    (λ z. z, omega (arith, inv .bytes .few, inv .inside, inv .lists .few, entry .copied-few))
 
 added-requires-2 : tie.Need-added-requires-2 Inv-loop μ-loop
 added-requires-2 c κs =
     let inv = c .before .before .before .before .before .before .before .before .before .before .before .before .before .before .before .before .before .before .before .before .before .loop .inv .3 in
     let entry = c .before .before .before .before .before .before .before .before .before .before .before .entry .ensures in
-    (λ z. z, omega (arith, inv .bytes .few, inv .inside, inv .lists .few, entry .copied-few))
+    (λ z. entry .dark ∙ nothing-added _ (sym (entry .copied) ∙ z), omega (arith, inv .spots .few, inv .inside, inv .lists .few, entry .dark-few))
 
 loop-again : tie.Need-loop-again Inv-loop μ-loop
 loop-again c =

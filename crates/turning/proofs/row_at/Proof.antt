@@ -21,7 +21,7 @@ loop-again : tie.Need-loop-again Inv-loop μ-loop
 loop-again c =
     let l = c .before .before .before .loop in
     let a = c .before .before .before .before .before .args in
-    (joined-more (a .picture .now) (a .k) (λ i. omega (arith, c .before .before .before .before .shared-slice-known .given i)) (l .j) (l .n) (c .wide .result) (omega arith) (l .inv .0) (c .wide .ensures), omega arith)
+    (joined-more (a .picture .now) (a .k) (λ i. omega (arith, c .before .before .before .before .shared-slice-known .given i)) (l .j) (l .n) (c .wide .result) (omega arith) (l .inv .0) (c .wide .ensures .0), omega arith)
 
 returns : tie.Need-returns Inv-loop μ-loop
 returns c = let all : c .before .loop .j ≡ 8 = omega arith in rw all at (c .before .loop .inv .0)

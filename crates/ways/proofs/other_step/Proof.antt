@@ -13,7 +13,7 @@ use Rattle.rules.specs.Rows.{bytesOf}
 use Rattle.rules.proofs.Choices.{both-zero}
 use Rattle.rules.proofs.Turning.{picture-rows}
 use Rattle.parts.specs.Whole.{whole}
-use Rattle.ways.proofs.OneStep.{verdict, in-range, place-inside, back, reached-refused, step-reaches, step-kept, made, other-dark}
+use Rattle.ways.proofs.OneStep.{verdict, in-range, place-inside, reached-back, step-reaches, step-kept, made, other-dark}
 use Rattle.ways.proofs.other_step.Statement.{statement}
 use Rattle.ways.proofs.other_step.Tie as tie
 
@@ -39,8 +39,8 @@ returns c =
     let a = s .args in
     let told = c .before .enum-told2 .given in
     let says = rw (told .1) at (judged .judged .ensures (a .v .now) (a .stack .now) (a .memory .now)) in
-    let (gives, dark, copied) = reached-refused (given s) (a .op) (s .pre .1) (a .keys) (a .random) (told .0 .0) says in
-    rw (c .refused .ensures, told .1) (back (a .keys) (a .random) (a .c) (a .v .now) (a .stack .now) (a .trail) (a .memory .now) (bytesOf (a .rows .now)) (a .history .now) _ gives dark copied)
+    rw (c .refused .ensures, told .1)
+    (reached-back (a .keys) (a .random) (a .c) (a .v .now) (a .stack .now) (a .trail) (a .memory .now) (bytesOf (a .rows .now)) (a .history .now) (a .op) _ (s .pre .1) says)
 
 -- what the judgement leaves, beside any stack
 abbrev judgedBeside : tie.Start → List ℕ → ℕ

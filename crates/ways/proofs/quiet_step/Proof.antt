@@ -14,7 +14,7 @@ use Rattle.rules.specs.Rows.{bytesOf}
 use Rattle.parts.specs.Whole.{whole}
 use Rattle.keeping.proofs.Laid.{nothing-old}
 use Rattle.transfers.proofs.Quiet.{quiet-leaves}
-use Rattle.ways.proofs.OneStep.{verdict, in-range, place-inside, back, reached-refused, able, made}
+use Rattle.ways.proofs.OneStep.{verdict, in-range, place-inside, reached-back, able, made}
 use Rattle.ways.proofs.quiet_step.Statement.{statement}
 use Rattle.ways.proofs.quiet_step.Tie as tie
 
@@ -50,8 +50,8 @@ returns c =
     let s = judged .before .before .before .before .before in
     let a = s .args in
     let told = c .before .enum-told2 .given in
-    let (gives, dark, copied) = reached-refused (given s) (op s) (s .pre .1) (a .keys) (a .random) (told .0 .0) (rw (told .1) at (says judged)) in
-    rw (c .refused .ensures, told .1) (back (a .keys) (a .random) (a .c) (a .v .now) (a .stack .now) (a .trail) (a .memory .now) (bytesOf (a .rows .now)) (a .history .now) _ gives dark copied)
+    rw (c .refused .ensures, told .1)
+    (reached-back (a .keys) (a .random) (a .c) (a .v .now) (a .stack .now) (a .trail) (a .memory .now) (bytesOf (a .rows .now)) (a .history .now) (op s) _ (s .pre .1) (rw (told .1) at (says judged)))
 
 passed : (c : tie.After-enum-told) → let s = c .before .before .before .before .before .before .before in verdict (given s) (s .pre .1 .ready) (op s) ≡ 0
 passed c = sym (says (c .before .before)) ∙ ap number (c .enum-told .given .1)
