@@ -10,7 +10,11 @@ words=''
 while [ $# -gt 0 ]; do
     case $1 in
     --prove) prove=yes ;;
-    --*) case " ${options:-} " in *" $1 "*) words="$words $1" ;; *) break ;; esac ;;
+    --help) break ;;
+    --*)
+        case " ${options:-} " in *" $1 "*) ;; *) die "there is no $1; ./$script --help says what there is" ;; esac
+        words="$words $1"
+        ;;
     *) break ;;
     esac
     shift

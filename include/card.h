@@ -2,7 +2,8 @@
  * card.h - the machine inside a game card: CHIP-8 of 1978 with a step back and
  * a step forward again.
  *
- * Link with the static library libcard.a; it needs nothing else:
+ * Link with the static library libcard.a. Of the C library it calls memcpy and
+ * memset, and nothing else:
  *
  *   cc -Iinclude dock.c libcard.a
  *

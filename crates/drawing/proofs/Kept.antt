@@ -31,21 +31,21 @@ part-in l a n b k h room =
     ∙ sym (getD-take k (drop (a + b) l) i 0 (omega (arith, sized)) ∙ getD-drop (a + b) l i 0)
 
 -- the bytes of some rows are laid, and then those of more rows beneath them, which stand as they stood
-pub both-kept : (rows after p p₁ p₂ : List ℕ) (at row middle end : ℕ) → row ≤ middle → middle ≤ end → end ≤ length rows → at + 8 * (end - row) ≤ length p
+pub both-kept : (rows after p p₁ p₂ : List ℕ) (at below row middle end : ℕ) → below ≡ at + 8 * (middle - row) → row ≤ middle → middle ≤ end → end ≤ length rows → at + 8 * (end - row) ≤ length p
     → length after ≡ length rows → ((k : ℕ) → middle ≤ k → getD after k 0 ≡ getD rows k 0)
     → p₁ ≡ over p at (part (bytesOf rows) (8 * row) (8 * (middle - row))) (8 * (middle - row))
-    → p₂ ≡ over p₁ (at + 8 * (middle - row)) (part (bytesOf after) (8 * middle) (8 * (end - middle))) (8 * (end - middle))
+    → p₂ ≡ over p₁ below (part (bytesOf after) (8 * middle) (8 * (end - middle))) (8 * (end - middle))
     → p₂ ≡ over p at (part (bytesOf rows) (8 * row) (8 * (end - row))) (8 * (end - row))
-both-kept rows after p p₁ p₂ at row middle end h k inside room sized same first second =
+both-kept rows after p p₁ p₂ at below row middle end behind h k inside room sized same first second =
     let u = 8 * (middle - row) in
     let d = 8 * (end - middle) in
     let n = 8 * (end - row) in
     let all = part (bytesOf rows) (8 * row) n in
     let fits : 8 * row + n ≤ length (bytesOf rows) = omega (arith, bytes-length rows) in
-    let below : 8 * row + u ≡ 8 * middle = omega arith in
+    let further : 8 * row + u ≡ 8 * middle = omega arith in
     let upper : part (bytesOf rows) (8 * row) u ≡ part all 0 u = sym (rw (add-zero (8 * row)) at (part-in (bytesOf rows) (8 * row) n 0 u (omega arith) fits)) in
     let lower : part (bytesOf after) (8 * middle) d ≡ part all u d =
-    same-bytes rows after middle d sized same ∙ sym (rw below at (part-in (bytesOf rows) (8 * row) n u d (omega arith) fits)) in
+    same-bytes rows after middle d sized same ∙ sym (rw further at (part-in (bytesOf rows) (8 * row) n u d (omega arith) fits)) in
     let begun = more-part p at all n p _ 0 u (none p at all n (part-sized rows row (end - row) (omega arith)) room) (omega arith) upper in
     let half : Laid p at all n p₁ u = rw first (rw (add-zero at, zero-add u) at begun) in
-    laid p at all n p₂ (u + d) (rw second (more-part p at all n p₁ _ u d half (omega arith) lower)) (omega arith)
+    laid p at all n p₂ (u + d) (rw (second, behind) (more-part p at all n p₁ _ u d half (omega arith) lower)) (omega arith)

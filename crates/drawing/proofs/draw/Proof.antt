@@ -121,11 +121,10 @@ returns c =
     let row = a .row in
     let middle = row + 8 in
     let on : row ≤ middle = omega arith in
-    let below : 64 ≡ 8 * (middle - row) = omega arith in
     let (dark, fits, lit, few) = counted-both made in
     let turned = more-turned (a .pattern .now) (a .column) row row (a .rows .now) middle (end at) _ _ (e .0) (f .0) on (beyond first) in
-    let kept = both-kept (a .rows .now) _ (a .place .now) _ _ (a .at) row middle (end at) on (beyond first) (rw (s .pre .0) (h .inside))
-    (room h (a .at) _ (s .pre .4)) (e .0 .sized) (e .0 .beneath) (e .1 .0) (rw below at (f .1 .0)) in (
+    let kept = both-kept (a .rows .now) _ (a .place .now) _ _ (a .at) (a .at + 64) row middle (end at) (omega arith) on (beyond first) (rw (s .pre .0) (h .inside))
+    (room h (a .at) _ (s .pre .4)) (e .0 .sized) (e .0 .beneath) (e .1 .0) (f .1 .0) in (
       drawn-turned (a .pattern .now) (a .column) row (small at) (a .rows .now) _ (end at) (s .pre .0) turned (h .beneath),
       (rw (h .many) at kept, record { dark = dark; lit = lit; few = few }),
     )
