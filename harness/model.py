@@ -12,7 +12,7 @@ import sys
 import tempfile
 from pathlib import Path
 
-PROGRAMS = ["arithmetic", "second edition", "drawing", "store and fetch", "calls"]
+PROGRAMS = ["arithmetic", "second edition", "drawing", "clearing", "store and fetch", "calls"]
 STEPS = 4096
 FROM, MODELLED = 1000, 360
 ADDRESS = re.compile(r"\[[0-9a-f]+/([0-9a-f]+)/")

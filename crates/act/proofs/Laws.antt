@@ -17,6 +17,8 @@ use Rattle.rules.proofs.Choices.{passed}
 use Rattle.rules.proofs.Parts.{zeroes}
 use Rattle.rules.proofs.Follow.{past-fits}
 use Rattle.rules.proofs.Still.{after-lit, counted-same}
+use Rattle.picture.specs.declared.Spots.{Spots}
+use Rattle.lit.specs.Balance.{Balance}
 use Rattle.act.specs.Became.{acted, Became}
 
 module _ (op : Op) (m : Machine) (allowed : refusalOf op m ≡ 0) (most : m .end ≤ 4096) where
@@ -54,6 +56,11 @@ module _ (op : Op) (m : Machine) (mem pic : List ℕ) (passes : litRefusal (m .l
   pub draw-passes : (x y n : ℕ) → op ≡ Draw x y n → litRefusal (m .lit) pic (drawn (part mem (m .i) n) (column m x) (row m y) pic) ≡ 0
   unfolding after
   draw-passes x y n e = rw e at passes
+
+pub clear-balance : (op : Op) (m : Machine) (mem pic : List ℕ) (s : Spots) → Balance s pic (pictureAfter op m mem pic) → op ≡ Clear
+    → Balance s pic (zeroes 256)
+unfolding after
+clear-balance op m mem pic s balance e = rw e at balance
 
 -- where the picture stays, so does the number
 pub still : (op : Op) (keys random : ℕ) (m : Machine) (mem pic : List ℕ) {m′ : Machine} {mem′ pic′ : List ℕ}

@@ -44,8 +44,8 @@ pub fn act_quiet(
 }
 
 // Any other instruction that is no drawing, after it was judged and its record kept. The last two are always refused.
-pub fn act(op: Op, c: Core, v: &[u8; 16], memory: &mut [u8], rows: &mut [u64]) -> Core
-    requires { ⌜ ((stack : List ℕ) → Accepted op (whole c (now v) stack) (now memory) (now rows)) ⌝ }
+pub fn act(op: Op, c: Core, v: &[u8; 16], memory: &mut [u8], rows: &mut [u64], dark: usize) -> Core
+    requires { ⌜ ((stack : List ℕ) → Accepted op (whole c (now v) stack) (now memory) (now rows) dark) ⌝ }
     ensures { λ r. ⌜
         ((keys random : ℕ) (stack : List ℕ) → Became
         (acted op keys random (whole c (now (v .entry)) stack) (now (memory .entry)) (bytesOf (now (rows .entry))))
@@ -56,7 +56,7 @@ pub fn act(op: Op, c: Core, v: &[u8; 16], memory: &mut [u8], rows: &mut [u64]) -
         Op::AwaitKey(_) => c,
         Op::Call(_) => c,
         Op::Return => c,
-        Op::Clear => transfers::clear(c, rows),
+        Op::Clear => transfers::clear(c, rows, dark),
         Op::Draw(_, _, _) => c,
         Op::Decimal(x) => transfers::decimal(c, v, x, memory),
         Op::Store(x) => transfers::store(c, v, x, memory),

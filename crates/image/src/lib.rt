@@ -1,9 +1,11 @@
 // A state and its numbers, read from an image of 64 bytes.
 ghost use mathlib.Core.Path.{_≡_};
+ghost use Prim.Native.Nat.{_+_, _*_, _/_, _%_, _<_};
 ghost use lib.ListN.{drop, length};
 ghost use Rattle.rules.specs.Number.{pick};
 ghost use Rattle.rules.specs.State.{zeros};
 ghost use Rattle.rules.specs.Memory.{part};
+ghost use Rattle.rules.specs.Record.{wordAt};
 ghost use Rattle.image.specs.Image.{imageSize, waitOf, stackOf, editionOf, inOrder, machineOf, trailOf};
 use rules::Edition;
 use rules::Machine;
@@ -46,23 +48,38 @@ fn registers_in(image: &[u8]) -> [u8; 16]
     v
 }
 
+// The two bytes of a number in the other order.
+fn turned(n: u16) -> u16
+    ensures { λ r. ⌜ r ≡ 256 * (n % 256) + n / 256 ⌝ }
+{
+    256 * (n % 256) + n / 256
+}
+
+// An entry of the stack. It is read with its low byte first, as the processor does, and turned: so the compiler reads eight entries at once.
+fn entry_at(image: &[u8], at: usize) -> u16
+    requires { ⌜ at + 1 < length (now image) ⌝ }
+    ensures { λ r. ⌜ r ≡ wordAt (now (image .entry)) at ⌝ }
+{
+    turned(memory::wide(image[at]) + 256 * memory::wide(image[at + 1]))
+}
+
 fn stack_in(image: &[u8]) -> [u16; Machine::STACK]
     requires { ⌜ length (now image) ≡ imageSize ⌝ }
     ensures { λ r. ⌜ r ≡ stackOf (now (image .entry)) ⌝ }
 {
     [
-        memory::word_at(image, 24),
-        memory::word_at(image, 26),
-        memory::word_at(image, 28),
-        memory::word_at(image, 30),
-        memory::word_at(image, 32),
-        memory::word_at(image, 34),
-        memory::word_at(image, 36),
-        memory::word_at(image, 38),
-        memory::word_at(image, 40),
-        memory::word_at(image, 42),
-        memory::word_at(image, 44),
-        memory::word_at(image, 46),
+        entry_at(image, 24),
+        entry_at(image, 26),
+        entry_at(image, 28),
+        entry_at(image, 30),
+        entry_at(image, 32),
+        entry_at(image, 34),
+        entry_at(image, 36),
+        entry_at(image, 38),
+        entry_at(image, 40),
+        entry_at(image, 42),
+        entry_at(image, 44),
+        entry_at(image, 46),
     ]
 }
 

@@ -1,30 +1,15 @@
-// The image of a state and its numbers, written piece by piece from its beginning.
+// The image of a state and its numbers, written piece by piece from its beginning: the variables, and then six times four numbers of two bytes.
 ghost use mathlib.Core.Path.{_≡_};
-ghost use mathlib.Core.List.{_++_};
-ghost use Prim.Native.Nat.{_+_, _<_};
-ghost use lib.ListN.{length};
+ghost use mathlib.Core.List.{[], _∷_, _++_};
+ghost use Prim.Native.Nat.{_+_, _≤_, _<_};
+ghost use lib.ListN.{length, replicate};
 ghost use Rattle.rules.specs.Number.{word};
-ghost use Rattle.image.specs.Image.{imageSize, middle, sixFrom, numbers, editionByte, tail, imageOf};
+ghost use Rattle.rules.specs.Rows.{eightOf};
+ghost use Rattle.image.specs.Image.{imageSize, middle, sixFrom, numbers, editionByte, imageOf};
 ghost use Rattle.image_writing.specs.Laid.{Stands};
 use rules::Edition;
 use rules::Machine;
 use rules::Trail;
-
-fn middle_of(m: Machine) -> [u8; 8]
-    ensures { λ r. ⌜ r ≡ middle m ⌝ }
-{
-    let wait = m.wait;
-    [
-        memory::high(m.i),
-        memory::low(m.i),
-        memory::high(m.pc),
-        memory::low(m.pc),
-        m.depth,
-        m.timers.delay,
-        m.timers.tone,
-        parts::held_byte(wait),
-    ]
-}
 
 fn edition_byte(edition: Edition) -> u8
     ensures { λ r. ⌜ r ≡ editionByte edition ⌝ }
@@ -35,28 +20,31 @@ fn edition_byte(edition: Edition) -> u8
     }
 }
 
-fn tail_of(m: Machine, t: Trail) -> [u8; 12]
-    ensures { λ r. ⌜ r ≡ tail m t ⌝ }
+// Widened by a call, so that it needs no proof that it fits.
+fn wide_word(x: u16) -> u64
+    ensures { λ r. ⌜ (r ≡ x) × (r < 65536) ⌝ }
 {
-    let edition = m.edition;
-    let ahead = (t.ahead % 65536) as u16;
-    [
-        edition_byte(edition),
-        0,
-        memory::high(ahead),
-        memory::low(ahead),
-        memory::high(m.lit),
-        memory::low(m.lit),
-        memory::high(m.end),
-        memory::low(m.end),
-        0,
-        0,
-        0,
-        0,
-    ]
+    x as u64
 }
 
-// The variables and the stack come by value, so that they can't lie where they are written.
+// Two bytes as one number.
+fn pair(high: u8, low: u8) -> u16
+    ensures { λ r. ⌜ word r ≡ high ∷ low ∷ [] ⌝ }
+{
+    256 * memory::wide(high) + memory::wide(low)
+}
+
+// Four numbers of two bytes as one of eight.
+fn four_of(a: u16, b: u16, c: u16, d: u16) -> u64
+    ensures { λ r. ⌜ eightOf r ≡ word a ++ word b ++ word c ++ word d ⌝ }
+{
+    wide_word(a) * 0x1_0000_0000_0000
+        + wide_word(b) * 0x1_0000_0000
+        + wide_word(c) * 0x1_0000
+        + wide_word(d)
+}
+
+// The variables come by value, so that they can't lie where they are written.
 fn lay_variables(image: &mut [u8], v: [u8; 16])
     requires { ⌜ length (now image) ≡ imageSize ⌝ }
     ensures { λ _. ⌜ Stands v (now (image .entry)) 0 (now (image .exit)) 16 ⌝ }
@@ -64,50 +52,60 @@ fn lay_variables(image: &mut [u8], v: [u8; 16])
     memory::lay(image, 0, &v);
 }
 
+// Four numbers of two bytes, which are one store. What stands behind them is laid later.
+fn lay_four(image: &mut [u8], at: usize, a: u16, b: u16, c: u16, d: u16)
+    requires { ⌜ at + 8 ≤ length (now image) ⌝ }
+    ensures { λ _. ⌜ Stands (word a ++ word b ++ word c ++ word d) (now (image .entry)) at (now (image .exit)) (at + 8) ⌝ }
+{
+    memory::lay_eight(image, at, four_of(a, b, c, d));
+}
+
 // The middle, behind the variables.
 fn lay_middle(image: &mut [u8], m: Machine)
     requires { ⌜ length (now image) ≡ imageSize ⌝ }
     ensures { λ _. ⌜ Stands (middle m) (now (image .entry)) 16 (now (image .exit)) 24 ⌝ }
 {
-    let middle = middle_of(m);
-    memory::lay(image, 16, &middle);
+    let wait = m.wait;
+    lay_four(
+        image,
+        16,
+        m.i,
+        m.pc,
+        pair(m.depth, m.timers.delay),
+        pair(m.timers.tone, parts::held_byte(wait)),
+    );
 }
 
-// A number of two bytes. What stands behind it is laid later.
-fn put_word(image: &mut [u8], at: usize, n: u16)
-    requires { ⌜ at + 1 < length (now image) ⌝ }
-    ensures { λ _. ⌜ Stands (word n) (now (image .entry)) at (now (image .exit)) (at + 2) ⌝ }
-{
-    image[at] = memory::high(n);
-    image[at + 1] = memory::low(n);
-}
-
-fn lay_stack(image: &mut [u8], stack: [u16; Machine::STACK])
+fn lay_stack(image: &mut [u8], s: [u16; Machine::STACK])
     requires { ⌜ length (now image) ≡ imageSize ⌝ }
-    ensures { λ _. ⌜ Stands (sixFrom 0 stack ++ sixFrom 6 stack) (now (image .entry)) 24 (now (image .exit)) 48 ⌝ }
+    ensures { λ _. ⌜ Stands (sixFrom 0 s ++ sixFrom 6 s) (now (image .entry)) 24 (now (image .exit)) 48 ⌝ }
 {
-    let mut k = 0;
-    while k < Machine::STACK {
-        put_word(image, 24 + 2 * k, stack[k]);
-        k += 1;
-    }
+    lay_four(image, 24, s[0], s[1], s[2], s[3]);
+    lay_four(image, 32, s[4], s[5], s[6], s[7]);
+    lay_four(image, 40, s[8], s[9], s[10], s[11]);
 }
 
-fn lay_numbers(image: &mut [u8], t: Trail)
+// Next and kept, the edition, and ahead.
+fn lay_numbers(image: &mut [u8], edition: Edition, t: Trail)
     requires { ⌜ length (now image) ≡ imageSize ⌝ }
-    ensures { λ _. ⌜ Stands (numbers t) (now (image .entry)) 48 (now (image .exit)) 52 ⌝ }
+    ensures { λ _. ⌜ Stands (numbers t ++ (editionByte edition ∷ 0 ∷ []) ++ word (t .ahead)) (now (image .entry)) 48 (now (image .exit)) 56 ⌝ }
 {
-    put_word(image, 48, (t.next % 65536) as u16);
-    put_word(image, 50, (t.kept % 65536) as u16);
+    lay_four(
+        image,
+        48,
+        (t.next % 65536) as u16,
+        (t.kept % 65536) as u16,
+        pair(edition_byte(edition), 0),
+        (t.ahead % 65536) as u16,
+    );
 }
 
-// The edition, ahead, the number of lit spots, the end of memory, and zeros.
-fn lay_tail(image: &mut [u8], m: Machine, t: Trail)
+// The number of lit spots, the end of memory, and zeros.
+fn lay_end(image: &mut [u8], lit: u16, end: u16)
     requires { ⌜ length (now image) ≡ imageSize ⌝ }
-    ensures { λ _. ⌜ Stands (tail m t) (now (image .entry)) 52 (now (image .exit)) 64 ⌝ }
+    ensures { λ _. ⌜ Stands (word lit ++ word end ++ replicate 4 0) (now (image .entry)) 56 (now (image .exit)) 64 ⌝ }
 {
-    let tail = tail_of(m, t);
-    memory::lay(image, 52, &tail);
+    lay_four(image, 56, lit, end, 0, 0);
 }
 
 // Writes the image of a state and its numbers.
@@ -117,9 +115,10 @@ pub fn write(image: &mut [u8], m: Machine, t: Trail)
 {
     let v = m.v;
     let stack = m.stack;
+    let edition = m.edition;
     lay_variables(image, v);
     lay_middle(image, m);
     lay_stack(image, stack);
-    lay_numbers(image, t);
-    lay_tail(image, m, t);
+    lay_numbers(image, edition, t);
+    lay_end(image, m.lit, m.end);
 }

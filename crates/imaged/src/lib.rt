@@ -17,7 +17,6 @@ ghost use Rattle.rules.specs.Dark.{stepDark};
 ghost use Rattle.rules.specs.Rows.{bytesOf};
 ghost use Rattle.image.specs.Image.{imageSize, imageOf};
 ghost use Rattle.imaged.specs.Imaged.{worldOf, shown, loadBy, whole, Leaves};
-use parts::Answer;
 use rules::Edition;
 use rules::Machine;
 use rules::Trail;
@@ -107,6 +106,7 @@ pub fn load(
     )
 }
 
+// The image is written here and not by `after_call`, for which the whole state would be copied once more.
 pub fn step(
     image: &mut [u8],
     memory: &mut [u8],
@@ -129,16 +129,12 @@ pub fn step(
     let t = before.trail;
     let stepped = chip8::step(m, t, memory, rows, history, keys, random);
     let outcome = stepped.outcome;
-    let machine = stepped.machine;
-    let trail = stepped.trail;
-    let n = image_after::after_call(
-        image,
-        Answer {
-            outcome,
-            machine,
-            trail,
-        },
-    );
+    let n = image_after::number(outcome);
+    if n == 0 {
+        let machine = stepped.machine;
+        let trail = stepped.trail;
+        image_writing::write(image, machine, trail);
+    }
     Told {
         number: n,
         accepted: image_after::accepted_by(n),

@@ -81,7 +81,7 @@ pub fn low(n: u16) -> u8
 }
 
 // A byte of a slice is widened by a call, so that it needs no proof that it fits.
-fn wide(x: u8) -> u16
+pub fn wide(x: u8) -> u16
     ensures { λ r. ⌜ (r ≡ x) × (r < 256) ⌝ }
 {
     x as u16

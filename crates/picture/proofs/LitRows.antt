@@ -4,12 +4,10 @@ use mathlib.Core.List.{List}
 use Prim.Native.Nat.{ℕ, _+_, _*_, _^_, _≤_, _<_}
 use native.Mathlib.Omega.{arith}
 use native.Mathlib.Numerals.{add-one}
-use lib.ListN.{getD, drop}
-use lib.Seq.{getD-drop}
+use lib.ListN.{getD}
 use lib.Count.{ones}
 use Rattle.rules.specs.Picture.{spot, litSpots}
 use Rattle.rules.specs.Rows.{bytesOf}
-use Rattle.rules.proofs.Laid.{Laid}
 use Rattle.rules.proofs.Counted.{lit-sum}
 use Rattle.picture.specs.Sums.{summed}
 use Rattle.picture.proofs.RowSpots.{spot-is}
@@ -39,9 +37,3 @@ litRow rows k = ones (getD rows k 0)
 pub all-rows : (rows : List ℕ) → ((y : ℕ) → getD rows y 0 < 2 ^ 64) → (y lit : ℕ) → CountedAbove (litRow rows) y lit → y ≡ 32
     → (lit ≡ litSpots (bytesOf rows)) × (lit ≤ 2048)
 all-rows rows small y lit l e = (rw e at (l .is) ∙ sym (lit-rows rows small), omega (arith, l .few))
-
--- the row that is laid next still stands
-pub next-stands : (r s q : List ℕ) (n y : ℕ) → Laid r 0 s n q y → getD q y 0 ≡ getD r y 0
-next-stands r s q n y p =
-    let at : (l : List ℕ) → getD (drop (0 + y) l) 0 0 ≡ getD l y 0 = λ l. getD-drop (0 + y) l 0 0 ∙ ap (λ (k : ℕ). getD l k 0) (omega arith) in
-    sym (at q) ∙ ap (λ (l : List ℕ). getD l 0 0) (p .left) ∙ at r

@@ -6,13 +6,14 @@ ghost use lib.Dec.{eqb, ltb};
 ghost use lib.ListN.{length, getD, take, drop, replicate};
 ghost use Rattle.rules.specs.declared.Wait.the-variants.{Idle};
 ghost use Rattle.rules.specs.Number.{pick};
-ghost use Rattle.rules.specs.State.{memorySize, pictureSize, upTo, withI, withReg, withV, withWait, withLit};
+ghost use Rattle.rules.specs.State.{memorySize, pictureSize, spotCount, upTo, withI, withReg, withV, withWait, withLit};
 ghost use Rattle.rules.specs.Registers.{onward};
 ghost use Rattle.rules.specs.Memory.{part, over, digitsOf};
 ghost use Rattle.rules.specs.Picture.{drawn, darkened};
 ghost use Rattle.rules.specs.Step.{rowsChange, rowBytes, litAfter, litRefusal, changeOf};
 ghost use Rattle.rules.specs.Rows.{bytesOf};
 ghost use Rattle.parts.specs.Whole.{whole};
+ghost use Rattle.lit.specs.Balance.{Balance};
 ghost use Rattle.transfers.specs.Within.{Within};
 use parts::Core;
 use picture::Spots;
@@ -91,15 +92,16 @@ pub fn pattern(i: u16, n: u8, memory: &[u8]) -> &[u8]
     &memory[at..at + count]
 }
 
-// 00E0
-pub fn clear(c: Core, rows: &mut [u64]) -> Core
-    requires { ⌜ (c .pc ≤ 4094) × (length (now rows) ≡ 32) × (litRefusal (c .lit) (bytesOf (now rows)) (replicate pictureSize 0) ≡ 0) ⌝ }
+// 00E0, which makes so many lit spots dark.
+pub fn clear(c: Core, rows: &mut [u64], dark: usize) -> Core
+    requires { ⌜ (c .pc ≤ 4094) × (length (now rows) ≡ 32) × (litRefusal (c .lit) (bytesOf (now rows)) (replicate pictureSize 0) ≡ 0)
+        × (dark ≤ spotCount) × Balance (record { dark = dark; lit = 0 }) (bytesOf (now rows)) (replicate pictureSize 0) ⌝ }
     ensures { λ r. ⌜ bytesOf (now (rows .exit)) ≡ replicate pictureSize 0 ⌝ }
     ensures { λ r. ⌜
         ((v stack : List ℕ) → whole r v stack ≡ withLit (litAfter (c .lit) (bytesOf (now (rows .entry))) (replicate pictureSize 0))
         (withWait Idle (onward (whole c v stack)))) ⌝ }
 {
-    let dark = picture::clear(rows);
+    picture::clear(rows);
     let lit = lit::counted(c.lit, Spots { dark, lit: 0 });
     registers::light(registers::idle(registers::onward(c)), lit)
 }

@@ -2,7 +2,8 @@
 ghost use mathlib.Core.Path.{_≡_};
 ghost use mathlib.Core.List.{List};
 ghost use Prim.Native.Nat.{ℕ, _≤_, _<_};
-ghost use lib.ListN.{length, replicate};
+ghost use lib.ListN.{length};
+ghost use Rattle.rules.specs.declared.Machine as machine;
 ghost use Rattle.rules.specs.Number.{orLater};
 ghost use Rattle.rules.specs.Refusal.{number};
 ghost use Rattle.rules.specs.State.{memorySize, pictureSize, spotCount};
@@ -12,6 +13,7 @@ ghost use Rattle.rules.specs.Rows.{bytesOf};
 ghost use Rattle.rules.specs.Step as rule;
 ghost use Rattle.rules.proofs.Good.{Bytes};
 ghost use Rattle.parts.specs.Whole.{whole};
+ghost use Rattle.lit.specs.Balance.{Balance};
 ghost use Rattle.decode.specs.declared.Way.the-variants as way;
 ghost use Rattle.decode.specs.Ways.{wayOf};
 use parts::Core;
@@ -52,12 +54,12 @@ fn late_drawing(lit: u16, column: usize, row: usize, pattern: &[u8], rows: &[u64
     lit::late(lit, drawing::would_turn(rows, pattern, column, row))
 }
 
-// The same of 00E0, which takes away what is lit.
-fn late_clearing(lit: u16, rows: &[u64]) -> Outcome
-    requires { ⌜ length (now rows) ≡ 32 ⌝ }
-    ensures { λ r. ⌜ number r ≡ rule.litRefusal lit (bytesOf (now (rows .entry))) (replicate pictureSize 0) ⌝ }
+// The same of 00E0, which makes so many lit spots dark.
+fn late_clearing(lit: u16, dark: usize) -> Outcome
+    requires { ⌜ dark ≤ spotCount ⌝ }
+    ensures { λ r. ⌜
+        ((p q : List ℕ) → Balance (record { dark = dark; lit = 0 }) p q → number r ≡ rule.litRefusal lit p q) ⌝ }
 {
-    let dark = picture::count(rows);
     lit::late(lit, Spots { dark, lit: 0 })
 }
 
@@ -108,20 +110,44 @@ pub fn judged_quiet(op: Op, c: Core) -> Outcome
     }
 }
 
-// What any other instruction needs that is no drawing: 2 or 3, or 6, and after it the late 10, of a number of lit spots that would leave
-// its range. Of those that have a way of their own it is never asked.
-pub fn judged(op: Op, c: Core, rows: &[u64]) -> Outcome
-    requires { ⌜ (wayOf op ≡ way.Other) × (c .lit ≤ spotCount) × (length (now rows) ≡ 32) ⌝ }
-    ensures { λ r. ⌜ ((v stack memory : List ℕ) → number r ≡ orLater (rule.refusalOf op (whole c v stack))
-        (rule.litRefusal (c .lit) (bytesOf (now (rows .entry)))
-        (rule.pictureAfter op (whole c v stack) memory (bytesOf (now (rows .entry)))))) ⌝ }
+// How many lit spots any other instruction makes dark that is no drawing: all of them for 00E0, and else none. They are counted once, for
+// the judgement and for the act.
+pub fn cleared(op: Op, rows: &[u64]) -> usize
+    requires { ⌜ (wayOf op ≡ way.Other) × (length (now rows) ≡ 32) ⌝ }
+    ensures { λ r. ⌜ ((m : machine.Machine) (memory : List ℕ) → Balance (record { dark = r; lit = 0 }) (bytesOf (now (rows .entry)))
+        (rule.pictureAfter op m memory (bytesOf (now (rows .entry))))) ⌝ }
+    ensures { λ r. ⌜ r ≤ spotCount ⌝ }
+{
+    match op {
+        Op::Plain(_) => 0,
+        Op::AwaitKey(_) => 0,
+        Op::Call(_) => 0,
+        Op::Return => 0,
+        Op::Clear => picture::count(rows),
+        Op::Draw(_, _, _) => 0,
+        Op::Decimal(_) => 0,
+        Op::Store(_) => 0,
+        Op::Fetch(_) => 0,
+        Op::Unlisted => 0,
+        Op::MachineCode => 0,
+    }
+}
+
+// What such an instruction needs: 2 or 3, or 6, and after it the late 10, of a number of lit spots that would leave its range. Of those that
+// have a way of their own it is never asked.
+pub fn judged(op: Op, c: Core, dark: usize) -> Outcome
+    requires { ⌜ (wayOf op ≡ way.Other) × (c .lit ≤ spotCount) × (dark ≤ spotCount) ⌝ }
+    ensures { λ r. ⌜
+        ((v stack memory picture : List ℕ) → Balance (record { dark = dark; lit = 0 }) picture
+        (rule.pictureAfter op (whole c v stack) memory picture) → number r ≡ orLater (rule.refusalOf op (whole c v stack))
+        (rule.litRefusal (c .lit) picture (rule.pictureAfter op (whole c v stack) memory picture))) ⌝ }
 {
     match op {
         Op::Plain(_) => Outcome::Done,
         Op::AwaitKey(_) => Outcome::Done,
         Op::Call(_) => Outcome::Done,
         Op::Return => Outcome::Done,
-        Op::Clear => late_clearing(c.lit, rows),
+        Op::Clear => late_clearing(c.lit, dark),
         Op::Draw(_, _, _) => Outcome::Done,
         Op::Decimal(_) => past(c, 3),
         Op::Store(x) => past(c, registers::up_to(x)),

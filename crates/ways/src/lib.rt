@@ -130,7 +130,8 @@ pub fn other_step(
         (world (whole c (now (v .entry)) (now (stack .entry))) trail (now (memory .entry)) (bytesOf (now (rows .entry)))
         (now (history .entry))) r (now (v .entry)) (now (stack .entry)) (now (memory .exit)) (bytesOf (now (rows .exit))) (now (history .exit)) ⌝ }
 {
-    let outcome = verdict::judged(op, c, rows);
+    let dark = verdict::cleared(op, rows);
+    let outcome = verdict::judged(op, c, dark);
     let Outcome::Done = outcome else {
         return refused(outcome, c, trail);
     };
@@ -147,7 +148,7 @@ pub fn other_step(
         Action::Step(keys, random),
     );
     keeping::keep_old(history, next, change, memory, rows);
-    let core = act::act(op, c, v, memory, rows);
+    let core = act::act(op, c, v, memory, rows, dark);
     Stepped {
         outcome: Outcome::Done,
         core,

@@ -12,7 +12,7 @@ use std::hint::black_box;
 use std::time::Instant;
 
 use harness::card::{self, Archive};
-use harness::desk::{Desk, Program, PROGRAMS};
+use harness::desk::{Desk, Program, PLAYED, PROGRAMS};
 use harness::dots::PANEL;
 use harness::plain::SPOTS;
 use harness::second::{HISTORY_MOST, LIST_MOST, PICTURE, PLACE};
@@ -30,22 +30,32 @@ fn main() {
         "Millions of steps a second: the best of {ROUNDS} rounds of {TURNS} turns, the median in brackets"
     );
     let mut turns: [[Turns; PROGRAMS.len()]; HISTORIES.len()] = Default::default();
+    let mut played: [Turns; PLAYED.len()] = Default::default();
     for _ in 0..ROUNDS {
         for (history_length, turns) in HISTORIES.into_iter().zip(&mut turns) {
             for (program, turns) in PROGRAMS.iter().zip(turns) {
                 measure(program, history_length, turns);
             }
         }
+        for (program, turns) in PLAYED.iter().zip(&mut played) {
+            measure(program, HISTORY_MOST, turns);
+        }
     }
     for (history_length, turns) in HISTORIES.into_iter().zip(turns) {
         println!("\nA history of {history_length} bytes");
-        let names = PROGRAMS.iter().map(|program| program.name);
-        let measured: Vec<(&str, Measured)> = names.zip(turns.map(Measured::of)).collect();
+        let measured = measured(&PROGRAMS, turns);
         print_runs(&measured);
         print_steps(&measured);
     }
+    println!("\nPrograms of the folder programs, with keys and a tick every tenth step");
+    print_runs(&measured(&PLAYED, played));
     print_panel();
     print_plain();
+}
+
+fn measured<const N: usize>(programs: &[Program; N], turns: [Turns; N]) -> Vec<(&str, Measured)> {
+    let names = programs.iter().map(|program| program.name);
+    names.zip(turns.map(Measured::of)).collect()
 }
 
 fn print_runs(measured: &[(&str, Measured)]) {

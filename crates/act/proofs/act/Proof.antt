@@ -13,14 +13,15 @@ use Rattle.rules.specs.Rows.{bytesOf}
 use Rattle.parts.specs.Whole.{whole}
 use Rattle.decode.proofs.Cases.{elsewhere, drawing-apart}
 use Rattle.act.specs.Became.{acted, Became}
-use Rattle.act.proofs.Laws.{decimal-reach, store-reach, clear-passes, still}
+use Rattle.act.proofs.Laws.{decimal-reach, store-reach, clear-passes, clear-balance, still}
 use Rattle.act.proofs.act.Statement.{statement}
 use Rattle.act.proofs.act.Tie as tie
 
 clear-requires : tie.Need-clear-requires
 clear-requires c κs =
     let ok = c .before .before .before .before .before .pre [] in
-    (ok .near, ok .rows, clear-passes _ _ _ _ (ok .passes) (c .before .enum-told5 .given .1))
+    let is = c .before .enum-told5 .given .1 in
+    (ok .near, ok .rows, clear-passes _ _ _ _ (ok .passes) is, ok .most, clear-balance _ _ _ _ _ (ok .balance) is)
 
 decimal-requires : tie.Need-decimal-requires
 decimal-requires c κs =

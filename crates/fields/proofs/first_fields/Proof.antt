@@ -1,7 +1,7 @@
 -- The number is put together from its eight bytes.
 use native.Mathlib.Omega.{arith}
 use borrow.Author.Needs.{needs}
-use Rattle.fields.proofs.Numbers.{eight-bytes}
+use Rattle.memory.proofs.Numbers.{eight-bytes}
 use Rattle.fields.proofs.first_fields.Statement.{statement}
 use Rattle.fields.proofs.first_fields.Tie as tie
 

@@ -25,7 +25,7 @@ clear-requires c κs =
 returns-2 : tie.Need-returns-2
 returns-2 c =
     rw (c .before .before .before .before .before .before .before .before .before .before .before .before .before .before .before .before .before .before .fresh .ensures, c .before .before .before .before .before .before .before .before .before .before .before .before .before .before .before .before .before .before .before .end-of .ensures)
-    (load-gives _ _ _ _ _ _ (sym (c .before .before .before .before .before .before .before .before .before .before .before .before .before .before .judged .ensures) ∙ ap number (c .before .before .before .before .before .before .before .before .before .before .before .before .enum-told .given .1)) _ _ _ (c .before .before .before .before .before .before .before .before .before .before .lay-out .ensures) (c .before .before .before .before .before .before .clear .ensures .0) (c .before .before .clear2 .ensures))
+    (load-gives _ _ _ _ _ _ (sym (c .before .before .before .before .before .before .before .before .before .before .before .before .before .before .judged .ensures) ∙ ap number (c .before .before .before .before .before .before .before .before .before .before .before .before .enum-told .given .1)) _ _ _ (c .before .before .before .before .before .before .before .before .before .before .lay-out .ensures) (c .before .before .before .before .before .before .clear .ensures) (c .before .before .clear2 .ensures))
 
 pub load-spec : {M : Type 1} → statement M
 load-spec =

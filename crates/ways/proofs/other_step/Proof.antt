@@ -27,18 +27,21 @@ given s = let a = s .args in world (machine s) (a .trail) (a .memory .now) (byte
 sized : (s : tie.Start) → length (s .args .rows .now) ≡ 32
 sized s = picture-rows (s .args .rows .now) (s .pre .1 .ready .good .picture .size)
 
+cleared-requires : tie.Need-cleared-requires
+cleared-requires c κs = let s = c .before .before .before .before in (s .pre .0, sized s)
+
 judged-requires : tie.Need-judged-requires
 judged-requires c κs =
-    let s = c .before .before .before .before in
-    (s .pre .0, s .pre .1 .ready .good .machine .lit, sized s)
+    let s = c .before .before .before .before .before in
+    (s .pre .0, s .pre .1 .ready .good .machine .lit, c .cleared .ensures .1)
 
 returns : tie.Need-returns
 returns c =
     let judged = c .before .before .before in
-    let s = judged .before .before .before .before .before in
+    let s = judged .before .before .before .before .before .before in
     let a = s .args in
     let told = c .before .enum-told2 .given in
-    let says = rw (told .1) at (judged .judged .ensures (a .v .now) (a .stack .now) (a .memory .now)) in
+    let says = rw (told .1) at (judged .judged .ensures (a .v .now) (a .stack .now) (a .memory .now) (bytesOf (a .rows .now)) (judged .before .cleared .ensures .0 _ _)) in
     rw (c .refused .ensures, told .1)
     (reached-back (a .keys) (a .random) (a .c) (a .v .now) (a .stack .now) (a .trail) (a .memory .now) (bytesOf (a .rows .now)) (a .history .now) (a .op) _ (s .pre .1) says)
 
@@ -50,25 +53,25 @@ judgedBeside s stack =
     let P = bytesOf (a .rows .now) in
     orLater (refusalOf (a .op) m) (litRefusal (m .lit) P (pictureAfter (a .op) m (a .memory .now) P))
 
-passedBeside : (c : tie.After-enum-told) (stack : List ℕ) → judgedBeside (c .before .before .before .before .before .before .before) stack ≡ 0
+passedBeside : (c : tie.After-enum-told) (stack : List ℕ) → judgedBeside (c .before .before .before .before .before .before .before .before) stack ≡ 0
 passedBeside c stack =
     let judged = c .before .before in
-    let a = judged .before .before .before .before .before .args in
-    sym (judged .judged .ensures (a .v .now) stack (a .memory .now)) ∙ ap number (c .enum-told .given .1)
+    let a = judged .before .before .before .before .before .before .args in
+    sym (judged .judged .ensures (a .v .now) stack (a .memory .now) (bytesOf (a .rows .now)) (judged .before .cleared .ensures .0 _ _)) ∙ ap number (c .enum-told .given .1)
 
-passed : (c : tie.After-enum-told) → let s = c .before .before .before .before .before .before .before in verdict (given s) (s .pre .1 .ready) (s .args .op) ≡ 0
-passed c = passedBeside c (c .before .before .before .before .before .before .before .args .stack .now)
+passed : (c : tie.After-enum-told) → let s = c .before .before .before .before .before .before .before .before in verdict (given s) (s .pre .1 .ready) (s .args .op) ≡ 0
+passed c = passedBeside c (c .before .before .before .before .before .before .before .before .args .stack .now)
 
 keep-requires : tie.Need-keep-requires
 keep-requires c κs =
-    let s = c .before .before .before .before .before .before .before .before .before .before .before in
+    let s = c .before .before .before .before .before .before .before .before .before .before .before .before in
     (place-inside (given s) (s .pre .1 .ready), s .pre .1 .ready .good .machine .calls .most)
 
 keep-old-requires : tie.Need-keep-old-requires
 keep-old-requires c κs =
     let changed = c .before .before .before .before .before .before .before in
     let told = changed .before .before .before in
-    let s = told .before .before .before .before .before .before .before in
+    let s = told .before .before .before .before .before .before .before .before in
     let r = s .pre .1 in (
       omega (arith, place-inside (given s) (r .ready), c .before .before .before .before .history .given),
       rw (changed .change-of .ensures (s .args .stack .now)) (step-reaches (given s) (r .ready) (s .args .op) (r .there) (r .near) (passed told) (s .args .rows .now) (sized s)),
@@ -77,7 +80,7 @@ keep-old-requires c κs =
 act-requires : tie.Need-act-requires
 act-requires c κs stack =
     let told = c .before .before .before .before .before .before .before .before .before .before .before .before .before .before .before in
-    let s = told .before .before .before .before .before .before .before in
+    let s = told .before .before .before .before .before .before .before .before in
     let r = s .pre .1 in
     let good = r .ready .good in
     let (allowed, passes) = both-zero _ _ (passedBeside told stack) in
@@ -87,6 +90,8 @@ act-requires c κs stack =
       near = omega (arith, r .near, good .machine .end .most);
       allowed = allowed;
       passes = passes;
+      most = told .before .before .before .cleared .ensures .1;
+      balance = told .before .before .before .cleared .ensures .0 _ _;
       memory = good .memory .size;
       rows = sized s;
     }
@@ -94,7 +99,7 @@ act-requires c κs stack =
 grown-requires : tie.Need-grown-requires
 grown-requires c κs =
     let placed = c .before .before .before .before .before .before .before .before .before .before .before .before .before .before .before .before .before .before in
-    let s = placed .before .before .before .before .before .before .before .before .before in
+    let s = placed .before .before .before .before .before .before .before .before .before .before in
     rw (placed .places .ensures) (in-range (given s) (s .pre .1 .ready))
 
 returns-2 : tie.Need-returns-2
@@ -105,7 +110,7 @@ returns-2 c =
     let changed = kept .before .before in
     let placed = changed .before in
     let told = placed .before .before in
-    let s = told .before .before .before .before .before .before .before in
+    let s = told .before .before .before .before .before .before .before .before in
     let a = s .args in
     let r = s .pre .1 in
     let w = given s in
@@ -116,4 +121,4 @@ returns-2 c =
     (rw change at (c .count-of .ensures))
 
 pub other-step-spec : {M : Type 1} → statement M
-other-step-spec = tie.close (tie.spec judged-requires (λ c. omega arith) (λ c. omega arith) (λ c. omega arith) (λ c. omega arith) returns (λ c. omega arith) (λ c. omega arith) keep-requires keep-old-requires act-requires grown-requires (λ c. omega arith) (λ c. omega arith) (λ c. omega arith) (λ c. omega arith) (λ c. omega arith) returns-2)
+other-step-spec = tie.close (tie.spec cleared-requires judged-requires (λ c. omega arith) (λ c. omega arith) (λ c. omega arith) (λ c. omega arith) returns (λ c. omega arith) (λ c. omega arith) keep-requires keep-old-requires act-requires grown-requires (λ c. omega arith) (λ c. omega arith) (λ c. omega arith) (λ c. omega arith) (λ c. omega arith) returns-2)
