@@ -12,12 +12,16 @@ import sys
 import tempfile
 from pathlib import Path
 
-PROGRAMS = ["arithmetic", "second edition", "drawing", "clearing", "store and fetch", "calls"]
 STEPS = 4096
 FROM, MODELLED = 1000, 360
 ADDRESS = re.compile(r"\[[0-9a-f]+/([0-9a-f]+)/")
 # What names an address, which stands too far away in a text without its place.
 AWAY = re.compile(r"^(?:b|bl|b\.\w+|cbz|cbnz|tbz|tbnz|adr|adrp)\b")
+
+
+def programs(binary):
+    """The names of the programs of the measurements, in their order."""
+    return subprocess.run(["qemu-aarch64", binary, "programs"], check=True, capture_output=True, text=True).stdout.splitlines()
 
 
 def executed(binary, engine, program):
@@ -66,7 +70,7 @@ def main():
     text_of = texts(llvm, binary)
     print("A step on Arm: card, hand-tuned, and hand-tuned to card")
     print(f"{'a run':<15} | " + " | ".join(f"{name:<20}" for name in ["instructions", *(f"cycles, {cpu}" for cpu in cpus)]))
-    for number, name in enumerate(PROGRAMS):
+    for number, name in enumerate(programs(binary)):
         card, tuned = (measured(llvm, binary, cpus, engine, number, text_of) for engine in ["card", "tuned"])
         print(f"{name:<15} | " + " | ".join(f"{c:6.1f} {t:6.1f} {t / c:6.2f}" for c, t in zip(card, tuned)))
 

@@ -2,6 +2,7 @@
 //! do: what `harness/model` takes down instruction by instruction.
 //!
 //!     turn card|tuned PROGRAM RUNS
+//!     turn programs                   prints their names, a line each
 
 use std::env;
 use std::process::exit;
@@ -17,6 +18,9 @@ fn main() {
     let number = |at: usize| words.get(at).and_then(|word| word.parse::<usize>().ok());
     let program = number(1).and_then(|number| PROGRAMS.get(number));
     match (words.first().map(String::as_str), program, number(2)) {
+        (Some("programs"), None, None) => PROGRAMS
+            .iter()
+            .for_each(|program| println!("{}", program.name)),
         (Some("card"), Some(program), Some(runs)) => {
             make(Desk::new(program, HISTORY_MOST, &Archive), runs)
         }
@@ -24,7 +28,7 @@ fn main() {
             make(Desk::new(program, HISTORY_MOST, &Tuned), runs)
         }
         _ => {
-            eprintln!("usage: turn card|tuned PROGRAM RUNS");
+            eprintln!("usage: turn card|tuned PROGRAM RUNS, or turn programs");
             exit(2);
         }
     }
