@@ -52,15 +52,9 @@ pub fn last_return(depth: u8, stack: &[u16; Machine::STACK]) -> u16
     if above == 0 { 0 } else { stack[above - 1] }
 }
 
-// A byte and a number of two bytes are widened by a call, so that they need no proof that they fit.
+// A byte is widened by a call, so that it needs no proof that it fits.
 fn wide(x: u8) -> u64
     ensures { λ r. ⌜ (r ≡ x) × (r < 256) ⌝ }
-{
-    x as u64
-}
-
-fn wide_word(x: u16) -> u64
-    ensures { λ r. ⌜ (r ≡ x) × (r < 65536) ⌝ }
 {
     x as u64
 }
@@ -70,14 +64,14 @@ fn wide_word(x: u16) -> u64
 pub fn first_fields(c: Core, last: u16) -> u64
     ensures { λ r. ⌜ eightOf r ≡ word (c .i) ++ word (c .pc) ++ (c .depth ∷ []) ++ word last ++ (c .timers .delay ∷ []) ⌝ }
 {
-    let i = wide_word(c.i);
-    let pc = wide_word(c.pc);
+    let i = memory::wide_word(c.i);
+    let pc = memory::wide_word(c.pc);
     let depth = wide(c.depth);
     let delay = wide(c.timers.delay);
     i * 0x1_0000_0000_0000
         + pc * 0x1_0000_0000
         + depth * 0x100_0000
-        + wide_word(last) * 0x100
+        + memory::wide_word(last) * 0x100
         + delay
 }
 

@@ -1,7 +1,7 @@
 // The image of a state and its numbers, written piece by piece from its beginning: the variables, and then six times four numbers of two bytes.
 ghost use mathlib.Core.Path.{_≡_};
 ghost use mathlib.Core.List.{[], _∷_, _++_};
-ghost use Prim.Native.Nat.{_+_, _≤_, _<_};
+ghost use Prim.Native.Nat.{_+_, _≤_};
 ghost use lib.ListN.{length, replicate};
 ghost use Rattle.rules.specs.Number.{word};
 ghost use Rattle.rules.specs.Rows.{eightOf};
@@ -20,13 +20,6 @@ fn edition_byte(edition: Edition) -> u8
     }
 }
 
-// Widened by a call, so that it needs no proof that it fits.
-fn wide_word(x: u16) -> u64
-    ensures { λ r. ⌜ (r ≡ x) × (r < 65536) ⌝ }
-{
-    x as u64
-}
-
 // Two bytes as one number.
 fn pair(high: u8, low: u8) -> u16
     ensures { λ r. ⌜ word r ≡ high ∷ low ∷ [] ⌝ }
@@ -38,10 +31,10 @@ fn pair(high: u8, low: u8) -> u16
 fn four_of(a: u16, b: u16, c: u16, d: u16) -> u64
     ensures { λ r. ⌜ eightOf r ≡ word a ++ word b ++ word c ++ word d ⌝ }
 {
-    wide_word(a) * 0x1_0000_0000_0000
-        + wide_word(b) * 0x1_0000_0000
-        + wide_word(c) * 0x1_0000
-        + wide_word(d)
+    memory::wide_word(a) * 0x1_0000_0000_0000
+        + memory::wide_word(b) * 0x1_0000_0000
+        + memory::wide_word(c) * 0x1_0000
+        + memory::wide_word(d)
 }
 
 // The variables come by value, so that they can't lie where they are written.

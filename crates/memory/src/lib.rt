@@ -80,11 +80,17 @@ pub fn low(n: u16) -> u8
     (n % 256) as u8
 }
 
-// A byte of a slice is widened by a call, so that it needs no proof that it fits.
+// A byte, and such a number, are widened by a call, so that they need no proof that they fit.
 pub fn wide(x: u8) -> u16
     ensures { λ r. ⌜ (r ≡ x) × (r < 256) ⌝ }
 {
     x as u16
+}
+
+pub fn wide_word(x: u16) -> u64
+    ensures { λ r. ⌜ (r ≡ x) × (r < 65536) ⌝ }
+{
+    x as u64
 }
 
 pub fn word_at(buffer: &[u8], at: usize) -> u16

@@ -2,7 +2,6 @@
 use mathlib.Core.Path.{_∙_}
 use mathlib.Core.List.{[], _∷_, _++_}
 use native.Mathlib.Omega.{arith}
-use borrow.Author.Needs.{needs}
 use Rattle.image_writing.proofs.Pieces.{reworded, last-two}
 use Rattle.image_writing.proofs.lay_numbers.Statement.{statement}
 use Rattle.image_writing.proofs.lay_numbers.Tie as tie

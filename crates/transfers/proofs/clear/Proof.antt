@@ -2,7 +2,6 @@
 use mathlib.Core.Path.{ap, _∙_}
 use Prim.Native.Nat.{ℕ}
 use borrow.Author.Needs.{needs}
-use Rattle.rules.specs.declared.Machine.{Machine}
 use Rattle.rules.specs.declared.Wait.the-variants.{Idle}
 use Rattle.rules.specs.State.{withWait, withLit}
 use Rattle.rules.specs.Registers.{onward}
