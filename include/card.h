@@ -26,8 +26,9 @@
  *
  *   image    64 bytes      registers, stack, timers, history numbers and the
  *                          number of lit spots
- *   memory   4,096 bytes   the program and its data; also in the 2K profile, which
- *                          leaves those from 06A0 on alone
+ *   memory   4,096 bytes   the program and its data; also in the 2K profile, where
+ *                          a load clears those from 06A0 on, and no other call
+ *                          reads or writes them
  *   rows     32 numbers    64 by 32 spots, a number of 64 bits for each row, top
  *                          row first, the highest bit leftmost, 1 for a lit spot
  *   history  292 to 65,536 bytes, a place of 292 bytes for each action that can
@@ -340,8 +341,8 @@ enum card_refusal {
 
 /* The second number of an entry of the list: as what the place had counted. */
 enum card_standing {
-    CARD_WAS_KEPT = 0,  /* a record that card_back could reach */
-    CARD_WAS_AHEAD = 1, /* a record that card_forward could reach */
+    CARD_WAS_KEPT = 0,  /* one of the kept actions, before next */
+    CARD_WAS_AHEAD = 1, /* one of those ahead, from next on */
     CARD_WAS_FREE = 2   /* neither */
 };
 
