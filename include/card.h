@@ -301,7 +301,8 @@ enum card_refusal {
  *     is not 0;
  *   - a number of lit spots above 2,048;
  *   - a next that is not below the places of the history, or kept and ahead that
- *     are more together than those places.
+ *     are more together than those places. card_page and card_plain are lent no
+ *     history, and do not look at the three.
  * V, I, PC, the timers and the return addresses may be anything.
  */
 
