@@ -272,6 +272,30 @@ enum card_refusal {
  * that nothing was done.
  */
 
+/*
+ * A refusal number in words, for a person: what a message can say after "refused:".
+ * A number that there is not gives words too, and never a null pointer.
+ */
+static inline const char *card_refusal_words(uint32_t refusal) {
+    static const char *const words[] = {
+        "nothing is refused",
+        "PC is past the end of memory",
+        "the edition has no such instruction",
+        "a call into machine language, which the card does not make",
+        "a call with the stack full",
+        "a return with the stack empty",
+        "I and the bytes needed pass the end of memory",
+        "nothing is kept to go back to",
+        "a program of no bytes, or too long a one",
+        "a buffer or a list has a wrong length",
+        "a state that cannot be, or a false number of lit spots",
+        "the record is damaged",
+        "nothing is ahead to go forward to",
+    };
+    const uint32_t last = sizeof words / sizeof *words - 1;
+    return refusal <= last ? words[refusal] : "no refusal number";
+}
+
 /* ---- The image ---------------------------------------------------------- */
 
 /* Where each part stands. Numbers of two bytes have the high byte first. */
