@@ -3,10 +3,13 @@
 
 import { FULL_END, LIST_MOST, Machine } from "./machine.js";
 import { fileOf, isCardFile, partsIn } from "./card-file.js";
-import { digitsAt, hex, instruction, REFUSALS } from "./words.js";
+import { counted, digitsAt, hex, instruction, REFUSALS } from "./words.js";
 
 const DAMAGED = 11;
 export const EDITIONS = ["first", "second"];
+
+/** More than the largest file that could be meant has. Of a larger one this much and one byte more is read. */
+export const READ_MOST = 100_000;
 
 const randomByte = () => Math.floor(256 * Math.random());
 
@@ -58,14 +61,22 @@ export class Dock {
     load(name, program, edition, end = FULL_END) {
         const refusal = this.machine.load(program, edition, end);
         if (refusal !== 0) {
-            const size = program.length === 0 ? "the file is empty" : `the file has ${program.length.toLocaleString("en")} bytes`;
-            this.refuse(`Load ${name}`, refusal, `, and ${size}`);
+            const more = program.length > READ_MOST ? "more than " : "";
+            const has = `has ${more}${counted(Math.min(program.length, READ_MOST), "byte")}`;
+            this.refuse(`Load ${name}`, refusal, `, and the file ${program.length === 0 ? "is empty" : has}`);
             return false;
         }
         Object.assign(this, { name, program, running: false });
         this.before.copy(this.machine);
         this.say(`${name} is loaded, for the ${EDITIONS[edition]} edition${end === FULL_END ? "" : " and the 2K profile"}.`);
         return true;
+    }
+
+    /** Whether there is a program to load again; where there is none, it says so. */
+    hasProgram() {
+        if (this.program) return true;
+        this.say(`There is no program to load again: ${this.name} is a card's file, and holds the machine alone.`);
+        return false;
     }
 
     // ---- single actions

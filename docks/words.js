@@ -2,6 +2,9 @@
 
 export const hex = (number, digits) => number.toString(16).toUpperCase().padStart(digits, "0");
 
+/** A number of things: 1 byte, 2,000 bytes. */
+export const counted = (number, thing) => `${number.toLocaleString("en")} ${thing}${number === 1 ? "" : "s"}`;
+
 /**
  * The instructions in the order of the rules: the digits, and what they do. X and Y stand for a variable, KK and MMM for
  * the numbers themselves, N for that many rows. Those of the second edition alone come last.

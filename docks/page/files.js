@@ -1,10 +1,7 @@
 // Files in and out: by the button, dropped on the page, and saved; and the question whether a worn history is to be salvaged.
 
-import { salvageInWords } from "../dock.js";
+import { READ_MOST, salvageInWords } from "../dock.js";
 import { add, find } from "./elements.js";
-
-/** What the largest file that could be meant has, generously. No more than that is read of one that was dropped by mistake. */
-const READ_MOST = 100_000;
 
 export class Files {
     constructor(dock, dialog, load, redraw) {
@@ -16,11 +13,11 @@ export class Files {
         });
     }
 
-    /** Reads a file of the person's and opens what it holds. */
+    /** Reads a file of the person's and opens what it holds. One may be dropped by mistake, so not all of a large one is read. */
     async take(file) {
         if (!file) return this.cannot("What was dropped", "it is no file");
         try {
-            this.open(file.name, new Uint8Array(await file.slice(0, READ_MOST).arrayBuffer()));
+            this.open(file.name, new Uint8Array(await file.slice(0, READ_MOST + 1).arrayBuffer()));
         } catch {
             this.cannot(file.name, "it cannot be read");
         }

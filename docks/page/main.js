@@ -111,7 +111,7 @@ class Page {
         on("step", "click", () => this.step());
         on("tick", "click", () => this.make(() => dock.tick()));
         on("run", "click", () => this.runOrPause());
-        on("again", "click", () => dock.program && this.load(dock.name, dock.program));
+        on("again", "click", () => (dock.hasProgram() ? this.load(dock.name, dock.program) : this.draw()));
         on("save", "click", () => this.files.save());
         on("offer", "click", () => this.files.offer());
         on("open", "click", () => find("file").click());
@@ -199,7 +199,6 @@ class Page {
         this.timeline.draw(machine);
         this.tone.sound(running && machine.tone > 0);
         find("run").textContent = running ? "Pause" : "Run";
-        find("again").disabled = dock.program === undefined;
         find("said").textContent = said.text;
         find("said").classList.toggle("refused", said.refused);
         find("offer").hidden = !dock.isDamaged;

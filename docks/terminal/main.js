@@ -7,6 +7,7 @@ import { basename } from "node:path";
 import { emitKeypressEvents } from "node:readline";
 import { Card } from "../machine.js";
 import { Dock, Pace, salvageInWords } from "../dock.js";
+import { read } from "../read.js";
 import { TerminalKeys } from "./keys.js";
 import { COLUMNS, LINES, screen, STYLES, wrap } from "./screen.js";
 
@@ -19,7 +20,7 @@ const HELP = `
   B            a break at an address
   + -          more or fewer steps a frame
   P            the page of variables on the glass
-  L            load the program again
+  L            load the program again from its file
   K            keep: save the whole machine as a card's file
   O            open a program or a card's file
   Ctrl-C       quit
@@ -27,13 +28,7 @@ const HELP = `
   The card's keys are 1234, QWER, ASDF and ZXCV. While the
   program stands, a press holds a key, and the next frees it.`.split("\n").slice(1);
 
-/** Why a file cannot be read, by the system's word for it. */
-const WHY = { ENOENT: "there is no such file", EISDIR: "it is a folder", EACCES: "it cannot be read" };
-
 const SPEEDS = [1, 3, 10, 30, 100, 300, 1000];
-/** More than the largest file that could be meant; no more of it is looked at. */
-const READ_MOST = 100_000;
-
 class Terminal {
     constructor(card, edition, end) {
         this.dock = new Dock(card);
@@ -48,13 +43,22 @@ class Terminal {
     /** Opens a file, or asks first, or says why not. */
     open(name) {
         try {
-            const { program, parts, salvage } = this.dock.look(readFileSync(name).subarray(0, READ_MOST));
-            if (program) this.dock.load(basename(name), program, ...this.chosen);
+            const { program, parts, salvage } = this.dock.look(read(name));
+            if (program) this.load(name, program);
             else if (salvage) this.askBefore(name, parts, salvage);
             else this.dock.open(basename(name), parts);
         } catch (error) {
-            this.dock.refuseFile(name, WHY[error.code] ?? error.message);
+            this.dock.refuseFile(name, error.message);
         }
+    }
+
+    load(name, program) {
+        if (this.dock.load(basename(name), program, ...this.chosen)) this.loaded = name;
+    }
+
+    /** Loads the program again, as its file is now. */
+    loadAgain() {
+        if (this.dock.hasProgram()) this.open(this.loaded);
     }
 
     /** Asks whether the worn history of a file is to be salvaged, before anything is changed. */
@@ -108,7 +112,7 @@ class Terminal {
             "+": () => this.faster(1),
             "-": () => this.faster(-1),
             p: () => (this.view.variables = !this.view.variables),
-            l: () => dock.program && dock.load(dock.name, dock.program, ...this.chosen),
+            l: () => this.loadAgain(),
             k: () => this.type("Save the card as: ", (name) => name && this.save(name)),
             o: () => this.type("Open: ", (name) => name && this.open(name)),
             y: () => dock.isDamaged && this.askNow(),

@@ -193,6 +193,7 @@ const TESTS = {
             await until(name, async () => (await said(browser)).startsWith(`Load ${name}: refused with 8`));
             assert.equal(await shown(browser), before);
         }
+        assert.match(await said(browser), /, and the file has more than 100,000 bytes\./);
         await browser.type("#file", file("cut.card", "HAOCARD1 and no more"));
         await until("cut", async () => /^cut.card was not opened: it ends too early/.test(await said(browser)));
         assert.equal(await shown(browser), before);
@@ -214,6 +215,9 @@ const TESTS = {
         await browser.run(() => page.loadOwn("mover.ch8"));
         await browser.type("#file", saved);
         await until("open", async () => (await said(browser)).startsWith("night.card is open, with 30 actions kept"));
+        assert.equal(await shown(browser), before);
+        await browser.click("#again");
+        assert.match(await said(browser), /^There is no program to load again: night.card is a card's file/);
         assert.equal(await shown(browser), before);
 
         const worn = Buffer.from(bytes);

@@ -1,11 +1,14 @@
 // The parts of a dock that need no screen: the machine, its words, the card's file, and the lines of the terminal.
 
 import assert from "node:assert/strict";
-import { readFileSync } from "node:fs";
+import { mkdtempSync, readFileSync, rmSync, writeFileSync } from "node:fs";
+import { tmpdir } from "node:os";
+import { join } from "node:path";
 import { test } from "node:test";
 import { CALLS, Card, Machine, PLACE, SMALL_END } from "../machine.js";
-import { Dock, Pace, salvageInWords } from "../dock.js";
+import { Dock, Pace, READ_MOST, salvageInWords } from "../dock.js";
 import { PROGRAMS } from "../programs.js";
+import { read } from "../read.js";
 import { COLUMNS, LINES, screen, STYLES } from "../terminal/screen.js";
 import { hex, instruction } from "../words.js";
 
@@ -113,11 +116,25 @@ test("a file that is empty or too long is refused and leaves the machine", async
     const dock = await dockWith("mover.ch8");
     dock.step(0);
     const before = all(dock.machine);
-    for (const length of [0, 3585, 90_000]) {
+    for (const [length, size] of [[0, "is empty"], [3585, "has 3,585 bytes"], [READ_MOST + 1, "has more than 100,000 bytes"]]) {
         const { program } = dock.look(new Uint8Array(length));
         assert.ok(!dock.load("wrong", program, 1));
-        assert.match(dock.said.text, /^Load wrong: refused with 8.*Nothing was changed\.$/);
+        assert.match(dock.said.text, new RegExp(`^Load wrong: refused with 8.*, and the file ${size}\\. Nothing was changed\\.$`));
         assert.deepEqual(all(dock.machine), before);
+    }
+});
+
+test("only an ordinary file is read, and of a large one no more than could be meant", () => {
+    const folder = mkdtempSync(join(tmpdir(), "dock-"));
+    try {
+        const large = join(folder, "large");
+        writeFileSync(large, Buffer.alloc(3 * READ_MOST, 7));
+        assert.deepEqual(read(large), new Uint8Array(READ_MOST + 1).fill(7));
+        assert.throws(() => read(folder), { message: "it is a folder" });
+        assert.throws(() => read(join(folder, "none")), { message: "there is no such file" });
+        assert.throws(() => read("/dev/zero"), { message: "it is no ordinary file" });
+    } finally {
+        rmSync(folder, { recursive: true });
     }
 });
 
@@ -144,8 +161,11 @@ test("a card's file holds the machine with its past", async () => {
     const other = await dockWith("keys.ch8");
     const { parts, salvage } = other.look(saved);
     assert.equal(salvage, undefined);
+    assert.ok(other.hasProgram());
     other.open("night.card", parts);
     assert.deepEqual(all(other.machine), all(dock.machine));
+    assert.ok(!other.hasProgram());
+    assert.match(other.said.text, /^There is no program to load again: night.card is a card's file/);
     other.seek(40);
     dock.seek(40);
     assert.deepEqual(all(other.machine), all(dock.machine));

@@ -4,15 +4,18 @@
 
 import assert from "node:assert/strict";
 import { spawn, spawnSync } from "node:child_process";
+import { copyFileSync, mkdtempSync, rmSync, writeFileSync } from "node:fs";
+import { tmpdir } from "node:os";
+import { join } from "node:path";
 import { setTimeout as wait } from "node:timers/promises";
 
 const [dock, program] = process.argv.slice(2);
 const UTF8 = { ...process.env, LC_ALL: "C.UTF-8", TERM: "xterm-256color" };
 
 class Screen {
-    constructor(columns, lines) {
+    constructor(columns, lines, file = program) {
         this.drawn = "";
-        this.process = spawn("script", ["-qfec", `stty cols ${columns} rows ${lines}; ${dock} ${program}`, "/dev/null"], { env: UTF8 });
+        this.process = spawn("script", ["-qfec", `stty cols ${columns} rows ${lines}; ${dock} ${file}`, "/dev/null"], { env: UTF8 });
         this.process.stdout.on("data", (text) => (this.drawn += text));
         this.ended = new Promise((done) => this.process.on("close", done));
     }
@@ -59,6 +62,30 @@ screen.press("?");
 await screen.until(/to the start, to the end of the timeline/);
 await screen.quit();
 console.log("  steps, backs, forwards, a refusal, a break and the help are shown, and the terminal is given back");
+
+const folder = mkdtempSync(join(tmpdir(), "dock-"));
+const file = (name) => join(folder, name);
+copyFileSync(program, file("own.ch8"));
+const files = new Screen(80, 24, file("own.ch8"));
+await files.until(/own.ch8 is loaded/);
+writeFileSync(file("own.ch8"), Uint8Array.of(0x63, 0x07, 0x12, 0x02));
+files.press(`l${ENTER}`);
+await files.until(/V3 07/);
+rmSync(file("own.ch8"));
+files.press("l");
+await files.until(/own.ch8 was not opened: there is no such file/);
+await files.until(/V3 07/);
+files.press(`o/dev/zero${ENTER}`);
+await files.until(/zero was not opened: it is no ordinary file/);
+files.press(`k${file("own.card")}${ENTER}`);
+await files.until(/The card was saved as/);
+files.press(`o${file("own.card")}${ENTER}`);
+await files.until(/own.card is open/);
+files.press("l");
+await files.until(/There is no program to load again: own.card is a card's file/);
+await files.quit();
+rmSync(folder, { recursive: true });
+console.log("  a program is loaded again as its file is now; a device is not opened; a card is saved and opened");
 
 const small = new Screen(79, 24);
 await small.until(/The dock needs 80 columns and 24 lines; this terminal has 79 and 24/);
