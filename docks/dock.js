@@ -3,10 +3,9 @@
 
 import { FULL_END, LIST_MOST, Machine } from "./machine.js";
 import { fileOf, isCardFile, partsIn } from "./card-file.js";
-import { counted, digitsAt, hex, instruction, REFUSALS } from "./words.js";
+import { counted, digitsAt, EDITIONS, hex, hint, instruction, REFUSALS } from "./words.js";
 
 const DAMAGED = 11;
-export const EDITIONS = ["first", "second"];
 
 /** More than the largest file that could be meant has. Of a larger one this much and one byte more is read. */
 export const READ_MOST = 100_000;
@@ -33,9 +32,9 @@ export class Dock {
         this.said = { text, refused: false };
     }
 
-    /** Says what was asked, why the card refused it, and that it left everything. */
-    refuse(asked, number, where = "") {
-        this.said = { text: `${asked}: refused with ${number}, ${REFUSALS[number]}${where}. Nothing was changed.`, refused: true, number };
+    /** Says what was asked, why the card refused it, and what it left. */
+    refuse(asked, number, where = "", left = "Nothing was changed.") {
+        this.said = { text: `${asked}: refused with ${number}, ${REFUSALS[number]}${where}. ${left}`, refused: true, number };
     }
 
     /** Says why a file was not opened. */
@@ -52,7 +51,9 @@ export class Dock {
 
     /** Where a refused step stood, for the sentence about it. */
     get where() {
-        return ` (${this.instruction.digits || "nothing"} at ${hex(this.machine.pc, 4)})`;
+        const { pc, edition } = this.machine;
+        const { digits } = this.instruction;
+        return ` (${digits || "nothing"} at ${hex(pc, 4)}${hint(digits, edition)})`;
     }
 
     // ---- load
@@ -113,10 +114,9 @@ export class Dock {
 
     // ---- run
 
-    /** A run that is begun where the break is goes on past it. */
     start() {
         this.running = true;
-        this.passBreak = true;
+        this.begins = true;
         this.say("");
     }
 
@@ -125,28 +125,37 @@ export class Dock {
         this.markLast();
     }
 
-    /** One frame of a run: a tick, and then the steps. */
+    /** One frame of a run: a tick, and then the steps. A run that begins where a step is refused is that step, without a tick. */
     frame(keys) {
+        if (this.begins && this.isRefused(keys)) return void this.step(keys);
         const refusal = this.breakAt === undefined ? this.runFreely(keys) : this.runToBreak(keys);
         if (refusal === 0) return;
         this.pause();
-        this.refuse("Step", refusal, this.where);
+        this.refuse("Step", refusal, this.where, "This step changed nothing; the tick and the steps before it stand.");
+    }
+
+    /** Whether the next step would be refused; it is tried on a copy. */
+    isRefused(keys) {
+        this.trial.copy(this.machine);
+        return this.trial.step(keys, 0) !== 0;
     }
 
     runFreely(keys) {
+        this.begins = false;
         const randoms = Uint8Array.from({ length: Math.min(this.stepsAFrame, LIST_MOST) }, randomByte);
         return this.machine.run(1, keys, randoms);
     }
 
+    /** A run that begins where the break is goes on past it. */
     runToBreak(keys) {
         let refusal = this.machine.tick();
         for (let n = 0; n < this.stepsAFrame && refusal === 0; n++) {
-            if (this.machine.pc === this.breakAt && !this.passBreak) {
+            if (this.machine.pc === this.breakAt && !this.begins) {
                 this.pause();
                 this.say(`The break at ${hex(this.breakAt, 4)} is reached.`);
                 return 0;
             }
-            this.passBreak = false;
+            this.begins = false;
             refusal = this.machine.step(keys, randomByte());
         }
         return refusal;

@@ -4,8 +4,8 @@ import { READ_MOST, salvageInWords } from "../dock.js";
 import { add, find } from "./elements.js";
 
 export class Files {
-    constructor(dock, dialog, load, redraw) {
-        Object.assign(this, { dock, dialog, load, redraw });
+    constructor(page, dialog) {
+        Object.assign(this, { page, dialog, dock: page.dock });
         addEventListener("dragover", (event) => event.preventDefault());
         addEventListener("drop", (event) => {
             event.preventDefault();
@@ -25,28 +25,28 @@ export class Files {
 
     cannot(name, why) {
         this.dock.refuseFile(name, why);
-        this.redraw();
+        this.page.draw();
     }
 
     async open(name, bytes) {
         try {
             const { program, parts, salvage } = this.dock.look(bytes);
-            if (program) return this.load(name, program);
+            if (program) return this.page.load(name, program);
             const wish = salvage ? await this.ask(name, salvage) : "as it is";
             if (wish === "leave" || wish === "") return this.cannot(name, "you left it");
-            this.dock.open(name, parts);
+            this.page.open(name, parts);
             if (wish === "salvage") this.dock.salvage();
         } catch (error) {
             return this.cannot(name, error.message);
         }
-        this.redraw();
+        this.page.draw();
     }
 
     /** The history of the machine that is open turned out to be damaged. */
     async offer() {
         const wish = await this.ask(this.dock.name, this.dock.salvageOffer, true);
         if (wish === "salvage") this.dock.salvage();
-        this.redraw();
+        this.page.draw();
     }
 
     /** Asks in the dialog. It gives "salvage", "as it is", "leave", or "" where it was closed otherwise. */
@@ -69,6 +69,6 @@ export class Files {
         link.click();
         setTimeout(() => URL.revokeObjectURL(link.href), 1000);
         this.dock.say(`The card was saved as ${link.download}.`);
-        this.redraw();
+        this.page.draw();
     }
 }

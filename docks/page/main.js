@@ -1,8 +1,8 @@
 // The page: puts the machine, the panels and the buttons together.
 
 import { Card } from "../machine.js";
-import { Dock, EDITIONS, Pace } from "../dock.js";
-import { hex } from "../words.js";
+import { Dock, Pace } from "../dock.js";
+import { EDITIONS, hex } from "../words.js";
 import { add, find } from "./elements.js";
 import { Files } from "./files.js";
 import { Glass } from "./picture.js";
@@ -28,7 +28,7 @@ class Page {
         this.keys = new Keys(find("pad"), find("latch"));
         this.tone = new Tone(find("sound"));
         this.timeline = new Timeline(find("timeline"), (kept) => this.make(() => this.dock.seek(kept)));
-        this.files = new Files(this.dock, find("salvage"), (name, program) => this.load(name, program), () => this.draw());
+        this.files = new Files(this, find("salvage"));
         this.fillLists();
         this.listenToButtons();
         this.listenToKeyboard();
@@ -59,6 +59,13 @@ class Page {
     load(name, program) {
         if (this.dock.load(name, program, ...this.chosen)) find("program").value = name in PROGRAMS ? name : "";
         this.draw();
+    }
+
+    /** Takes the machine out of a card's file. The lists say then what that machine is. */
+    open(name, parts) {
+        this.dock.open(name, parts);
+        const { edition, end } = this.dock.machine;
+        for (const [id, value] of Object.entries({ program: "", edition, end })) find(id).value = value;
     }
 
     /** Does something to the machine and shows what came of it. */

@@ -149,18 +149,30 @@ const TESTS = {
         await choose("edition", "0");
         await browser.click("#again");
         assert.match(await said(browser), /is loaded, for the first edition and the 2K profile\.$/);
+        assert.deepEqual([await cell(browser, "Edition"), await cell(browser, "Memory end")], ["first", "06A0"]);
+        await browser.run(() => (window.small = page.dock.save()));
         await choose("end", "4096");
         await choose("edition", "1");
         await browser.click("#again");
         assert.match(await said(browser), /is loaded, for the second edition\.$/);
+        assert.deepEqual([await cell(browser, "Edition"), await cell(browser, "Memory end")], ["second", "1000"]);
+        await browser.run(() => page.files.open("small.card", window.small));
+        assert.deepEqual(await browser.run(() => page.chosen), [0, 1696]);
+        assert.deepEqual([await cell(browser, "Edition"), await cell(browser, "Memory end")], ["first", "06A0"]);
+        await choose("end", "4096");
+        await choose("edition", "1");
     },
 
     async "a refusal is said, and can be stepped back from"(browser) {
         await browser.run(() => page.loadOwn("again.ch8"));
         await browser.click("#run");
         await until("refused", async () => (await said(browser)).includes("refused with 3"));
-        assert.match(await said(browser), /^Step: refused with 3, a call into machine language.*\(00FD at 0218\)\. Nothing was changed\.$/);
+        assert.match(await said(browser), /^Step: refused with 3, a call into machine language.*\(00FD at 0218\)\. This step changed nothing/);
         const before = await shown(browser);
+        const past = [await kept(browser), await ahead(browser)];
+        await browser.click("#run");
+        await until("refused at once", async () => (await said(browser)).endsWith("(00FD at 0218). Nothing was changed."));
+        assert.deepEqual([await kept(browser), await ahead(browser)], past);
         await browser.click("#back");
         assert.notEqual(await shown(browser), before);
         assert.equal(await said(browser), "");

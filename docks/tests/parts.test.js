@@ -107,9 +107,47 @@ test("a refused step ends a run, stays on the screen and is stepped back from", 
     dock.start();
     for (let n = 0; n < 5; n++) if (dock.running) dock.frame(0);
     assert.ok(!dock.running);
-    assert.match(dock.said.text, /Step: refused with 3, a call into machine language.* \(00FD at 0218\)\. Nothing was changed/);
+    assert.match(dock.said.text, /Step: refused with 3, .* \(00FD at 0218\)\. This step changed nothing; the tick and the steps before it stand\.$/);
     assert.equal(dock.machine.lit, 76);
     assert.ok(dock.back());
+});
+
+test("a run that begins where a step is refused changes nothing, with a break or without", async () => {
+    const dock = new Dock(await card());
+    // The delay timer becomes 9; then comes what the card does not make.
+    dock.load("crash", Uint8Array.of(0x60, 0x09, 0xf0, 0x15, 0x00, 0xfd), 1);
+    dock.step(0);
+    dock.step(0);
+    dock.tick();
+    dock.back();
+    const before = all(dock.machine);
+    for (const breakAt of [undefined, 0x204, 0x300]) {
+        dock.breakAt = breakAt;
+        dock.start();
+        dock.frame(0);
+        assert.ok(!dock.running);
+        assert.match(dock.said.text, /^Step: refused with 3, .* \(00FD at 0204\)\. Nothing was changed\.$/);
+        assert.deepEqual(all(dock.machine), before);
+        assert.deepEqual([dock.machine.delay, dock.machine.kept, dock.machine.ahead], [9, 2, 1]);
+    }
+});
+
+test("where the second edition has a refused instruction, or PC ran past the program, it is said", async () => {
+    const dock = new Dock(await card());
+    const refusalOf = (edition, ...program) => {
+        dock.load("refused", Uint8Array.from(program), edition);
+        dock.step(0);
+        return dock.said.text;
+    };
+    for (const last of [0x13, 0x16, 0x17, 0x1e]) {
+        assert.match(refusalOf(0, 0x80, last), /refused with 2, .*\(801. at 0200; the second edition has it\)/);
+        assert.equal(refusalOf(1, 0x80, last), "");
+    }
+    for (const edition of [0, 1]) {
+        assert.match(refusalOf(edition, 0x80, 0x18), /refused with 2, .*\(8018 at 0200\)/);
+        assert.match(refusalOf(edition, 0, 0), /refused with 3, .*\(0000 at 0200; PC probably ran past the program\)/);
+        assert.match(refusalOf(edition, 0, 1), /refused with 3, .*\(0001 at 0200\)/);
+    }
 });
 
 test("a file that is empty or too long is refused and leaves the machine", async () => {
@@ -227,6 +265,22 @@ test("every line of the terminal's screen fits", async () => {
             assert.ok(Math.max(...widths) <= COLUMNS, `${name}, line ${widths.findIndex((width) => width > COLUMNS) + 1}`);
         }
     }
+});
+
+test("the terminal's screen has the edition and the end of memory, and all of a long refusal", async () => {
+    const dock = new Dock(await card());
+    const text = () => screen(dock, { style: STYLES.plain, down: [] }).join("\n").replace(/\x1b\[[0-9;]*m/g, "");
+    dock.load("crash", Uint8Array.of(0x60, 0x01), 0, SMALL_END);
+    assert.match(text(), / first, to 06A0\n/);
+    const saved = dock.save();
+    dock.start();
+    dock.frame(0);
+    assert.match(text(), /0000 at 0202; PC[ \n]probably ran past.*before[ \n]it stand\.$/s);
+    assert.equal(text().split("\n").length, LINES);
+    dock.load("crash", Uint8Array.of(0x60, 0x01), 1);
+    assert.match(text(), / second, to 1000\n/);
+    dock.open("small.card", dock.look(saved).parts);
+    assert.match(text(), / first, to 06A0\n/);
 });
 
 test("the pace is sixty frames a second, and does not catch up", () => {
