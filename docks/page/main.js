@@ -15,8 +15,9 @@ const SPEEDS = [1, 3, 10, 30, 100, 300, 1000];
 
 const bytesOf = (base64) => Uint8Array.from(atob(base64), (letter) => letter.charCodeAt(0));
 
-/** What is inside the page: the module, and the programs of our own. */
+/** What is inside the page beside the module: the programs, and how they are to be loaded. */
 const PROGRAMS = JSON.parse(find("programs").textContent);
+const CHOSEN = JSON.parse(find("chosen").textContent);
 
 class Page {
     constructor(card) {
@@ -32,7 +33,7 @@ class Page {
         this.fillLists();
         this.listenToButtons();
         this.listenToKeyboard();
-        this.loadOwn(Object.keys(PROGRAMS)[0]);
+        this.loadListed(Object.keys(PROGRAMS)[0]);
     }
 
     fillLists() {
@@ -42,6 +43,7 @@ class Page {
         file.value = "";
         for (const steps of SPEEDS) add(find("speed"), "option", "", steps.toLocaleString("en")).value = steps;
         find("speed").value = this.dock.stepsAFrame;
+        this.choose(CHOSEN);
     }
 
     // ---- what a person asks for
@@ -51,7 +53,11 @@ class Page {
         return [Number(find("edition").value), Number(find("end").value)];
     }
 
-    loadOwn(name) {
+    choose(choices) {
+        for (const [id, value] of Object.entries(choices)) find(id).value = value;
+    }
+
+    loadListed(name) {
         this.load(name, bytesOf(PROGRAMS[name].bytes));
         find("program").value = name;
     }
@@ -65,7 +71,7 @@ class Page {
     open(name, parts) {
         this.dock.open(name, parts);
         const { edition, end } = this.dock.machine;
-        for (const [id, value] of Object.entries({ program: "", edition, end })) find(id).value = value;
+        this.choose({ program: "", edition, end });
     }
 
     /** Does something to the machine and shows what came of it. */
@@ -127,7 +133,7 @@ class Page {
             target.value = "";
         });
         on("help", "click", () => find("keys-help").showModal());
-        on("program", "change", ({ target }) => this.loadOwn(target.value));
+        on("program", "change", ({ target }) => this.loadListed(target.value));
         on("edition", "change", ({ target }) =>
             this.make(() => dock.say(`The ${EDITIONS[target.value]} edition counts from the next load on.`)),
         );

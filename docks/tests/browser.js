@@ -3,11 +3,12 @@
 //   node browser.js DOCK.HTML FOLDER     pictures of the page are left in FOLDER
 
 import assert from "node:assert/strict";
+import { spawnSync } from "node:child_process";
 import { mkdtempSync, readFileSync, rmSync, writeFileSync } from "node:fs";
 import { tmpdir } from "node:os";
-import { join } from "node:path";
+import { dirname, join } from "node:path";
 import { setTimeout as wait } from "node:timers/promises";
-import { pathToFileURL } from "node:url";
+import { fileURLToPath, pathToFileURL } from "node:url";
 import { PLACE } from "../machine.js";
 import { Browser } from "./driver.js";
 
@@ -126,7 +127,7 @@ const TESTS = {
     },
 
     async "a break is set, reached and gone on from"(browser) {
-        await browser.run(() => page.loadOwn("digits.ch8"));
+        await browser.run(() => page.loadListed("digits.ch8"));
         await browser.type("#break", `20E${ENTER}`);
         await browser.click("#run");
         await until("the break", async () => (await said(browser)) === "The break at 020E is reached.");
@@ -164,7 +165,7 @@ const TESTS = {
     },
 
     async "a refusal is said, and can be stepped back from"(browser) {
-        await browser.run(() => page.loadOwn("again.ch8"));
+        await browser.run(() => page.loadListed("again.ch8"));
         await browser.click("#run");
         await until("refused", async () => (await said(browser)).includes("refused with 3"));
         assert.match(await said(browser), /^Step: refused with 3, a call into machine language.*\(00FD at 0218\)\. This step changed nothing/);
@@ -212,7 +213,7 @@ const TESTS = {
     },
 
     async "a card is saved and opened again with its past; a worn one is salvaged when asked"(browser) {
-        await browser.run(() => page.loadOwn("night.ch8"));
+        await browser.run(() => page.loadListed("night.ch8"));
         await browser.keys(...Array(30).fill(ENTER));
         await browser.click("#save");
         const saved = join(temporary, "night.card");
@@ -224,7 +225,7 @@ const TESTS = {
             return bytes?.length > HISTORY_AT;
         });
         const before = await shown(browser);
-        await browser.run(() => page.loadOwn("mover.ch8"));
+        await browser.run(() => page.loadListed("mover.ch8"));
         await browser.type("#file", saved);
         await until("open", async () => (await said(browser)).startsWith("night.card is open, with 30 actions kept"));
         assert.equal(await shown(browser), before);
@@ -254,7 +255,7 @@ const TESTS = {
 
     async "a run at 1,000 steps a frame leaves most of a frame's time"(browser) {
         await browser.run(() => {
-            page.loadOwn("squash.ch8");
+            page.loadListed("squash.ch8");
             page.dock.stepsAFrame = 1000;
             window.times = [];
             const frame = page.frame;
@@ -271,6 +272,27 @@ const TESTS = {
         const [middle, most] = [times[times.length >> 1], times[Math.floor(times.length * 0.95)]];
         assert.ok(middle < 8, `a frame takes ${middle} ms`);
         return `${times.length} frames in 3 s, each ${middle.toFixed(1)} ms in the middle and ${most.toFixed(1)} ms for 95 of 100`;
+    },
+
+    async "a page that is made with a program and choices begins with them"(browser) {
+        const make = (...words) => {
+            const made = [join(dirname(html), "card.wasm"), join(temporary, "made.html"), ...words];
+            return spawnSync(process.execPath, [fileURLToPath(new URL("../page/make.js", import.meta.url)), ...made], { encoding: "utf8" });
+        };
+        // It is called as one of our own, and is another.
+        assert.equal(make("0", "1696", file("mover.ch8", Uint8Array.of(0x63, 0x07))).status, 0);
+        await browser.open(pathToFileURL(join(temporary, "made.html")).href);
+        await until("ready", () => browser.run(() => document.body.dataset.ready === "yes"));
+        assert.equal(await said(browser), "mover.ch8 is loaded, for the first edition and the 2K profile.");
+        assert.equal(await browser.run(() => document.getElementById("program").selectedIndex), 0);
+        assert.deepEqual(await browser.run(() => page.chosen), [0, 1696]);
+        await browser.click("#step");
+        assert.equal(await cell(browser, "V3"), "07");
+        for (const [bytes, why] of [["HAOCARD1", /wrong was not opened: it is a card's file/], ["", /^dock: Load wrong: refused with 8/]]) {
+            const { status, stderr } = make("1", "4096", file("wrong", bytes));
+            assert.equal(status, 2);
+            assert.match(stderr, why);
+        }
     },
 };
 

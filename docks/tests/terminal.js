@@ -13,9 +13,9 @@ const [dock, program] = process.argv.slice(2);
 const UTF8 = { ...process.env, LC_ALL: "C.UTF-8", TERM: "xterm-256color" };
 
 class Screen {
-    constructor(columns, lines, file = program) {
+    constructor(columns, lines, words = program) {
         this.drawn = "";
-        this.process = spawn("script", ["-qfec", `stty cols ${columns} rows ${lines}; ${dock} ${file}`, "/dev/null"], { env: UTF8 });
+        this.process = spawn("script", ["-qfec", `stty cols ${columns} rows ${lines}; ${dock} ${words}`, "/dev/null"], { env: UTF8 });
         this.process.stdout.on("data", (text) => (this.drawn += text));
         this.ended = new Promise((done) => this.process.on("close", done));
     }
@@ -66,8 +66,9 @@ console.log("  steps, backs, forwards, a refusal, a break and the help are shown
 const folder = mkdtempSync(join(tmpdir(), "dock-"));
 const file = (name) => join(folder, name);
 copyFileSync(program, file("own.ch8"));
-const files = new Screen(80, 24, file("own.ch8"));
-await files.until(/own.ch8 is loaded/);
+const files = new Screen(80, 24, `--first ${file("own.ch8")} --2k`);
+await files.until(/own.ch8 is loaded, for the first edition and the 2K profile/);
+await files.until(/ first, to 06A0/);
 writeFileSync(file("own.ch8"), Uint8Array.of(0x63, 0x07, 0x12, 0x02));
 files.press(`l${ENTER}`);
 await files.until(/V3 07/);
@@ -90,6 +91,18 @@ console.log("  a program is loaded again as its file is now; a device is not ope
 const small = new Screen(79, 24);
 await small.until(/The dock needs 80 columns and 24 lines; this terminal has 79 and 24/);
 await small.quit();
+
+for (const [words, why] of [
+    [["--wrong"], "there is no --wrong; ./dock --help says what there is"],
+    [[program, "--wrong"], "there is no --wrong; ./dock --help says what there is"],
+    [["nofile"], "nofile was not opened: there is no such file"],
+    [["--", "--web"], "--web was not opened: there is no such file"],
+    [[program, "--first", program], "one file at a time: ./dock FILE"],
+]) {
+    const { status, stdout, stderr } = spawnSync(dock, words, { encoding: "utf8", input: "" });
+    assert.deepEqual([status, stdout, stderr], [2, "", `dock: ${why}\n`]);
+}
+console.log("  a wrong option and a file that is not there are said before anything is compiled");
 
 const none = spawnSync(dock, [program], { encoding: "utf8", input: "" });
 assert.equal(none.status, 2);
