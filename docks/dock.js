@@ -3,7 +3,7 @@
 
 import { FULL_END, LIST_MOST, Machine } from "./machine.js";
 import { fileOf, isCardFile, partsIn } from "./card-file.js";
-import { counted, digitsAt, EDITIONS, hex, hint, instruction, REFUSALS } from "./words.js";
+import { addressIn, counted, digitsAt, EDITIONS, hex, hint, instruction, REFUSALS } from "./words.js";
 
 const DAMAGED = 11;
 
@@ -159,6 +159,17 @@ export class Dock {
             refusal = this.machine.step(keys, randomByte());
         }
         return refusal;
+    }
+
+    /** Sets the break as it was typed, in hex; nothing takes it away. What is no address in memory leaves it, and that is said. */
+    typeBreak(typed) {
+        const text = typed.trim();
+        const address = addressIn(text);
+        const { end } = this.machine;
+        if (text !== "" && address === undefined) return this.say(`${text} is no address in hex. The break stays as it was.`);
+        if (address >= end) return this.say(`${hex(address, 4)} is not in memory, which ends at ${hex(end, 4)}. The break stays as it was.`);
+        this.breakAt = address;
+        this.say("");
     }
 
     /** After a run: what stood before its last action is found by a back, on a copy. */

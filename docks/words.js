@@ -76,6 +76,12 @@ export function hint(digits, edition) {
     return edition === 0 && inSecond && !inFirst ? "; the second edition has it" : "";
 }
 
+/** The address that a person typed in hex, also as 0x20E and #20E; nothing where it is none. */
+export function addressIn(text) {
+    const digits = text.match(/^(?:0x|#)?([0-9a-f]{1,4})$/i)?.[1];
+    return digits && parseInt(digits, 16);
+}
+
 /** The four digits at an address, or nothing where memory ends before them. */
 export const digitsAt = ({ memory, end }, at) => (at + 1 < end ? hex(256 * memory[at] + memory[at + 1], 4) : undefined);
 

@@ -2,7 +2,7 @@
 
 import { Card } from "../machine.js";
 import { Dock, Pace } from "../dock.js";
-import { EDITIONS, hex } from "../words.js";
+import { addressIn, EDITIONS, hex } from "../words.js";
 import { add, find } from "./elements.js";
 import { Files } from "./files.js";
 import { Glass } from "./picture.js";
@@ -97,11 +97,18 @@ class Page {
         this.draw();
     }
 
-    /** What was typed as an address, in hex; nothing where it is none. */
-    typed(field) {
-        const isAddress = /^[0-9a-f]{1,4}$/i.test(field.value.trim());
-        field.classList.toggle("wrong", field.value.trim() !== "" && !isAddress);
-        return isAddress ? parseInt(field.value, 16) : undefined;
+    typeBreak(typed) {
+        this.dock.typeBreak(typed);
+        this.breakAt(this.dock.breakAt);
+    }
+
+    /** Follows the address that is being typed. What is none is marked at once, and said when it stays so. */
+    follow(text, isTyped) {
+        document.querySelector('[name=follow][value="own"]').checked = true;
+        const isWrong = text !== "" && addressIn(text) === undefined;
+        find("at").classList.toggle("wrong", isWrong);
+        if (isWrong && isTyped) this.dock.say(`${text} is no address in hex.`);
+        this.draw();
     }
 
     // ---- the run
@@ -142,8 +149,9 @@ class Page {
         );
         on("speed", "change", ({ target }) => (dock.stepsAFrame = Number(target.value)));
         on("variables", "change", () => this.draw());
-        on("break", "input", ({ target }) => this.make(() => (dock.breakAt = this.typed(target))));
-        on("at", "input", () => this.make(() => (document.querySelector('[name=follow][value="own"]').checked = true)));
+        on("break", "change", ({ target }) => this.typeBreak(target.value));
+        on("at", "input", ({ target }) => this.follow(target.value.trim(), false));
+        on("at", "change", ({ target }) => this.follow(target.value.trim(), true));
         for (const choice of document.querySelectorAll("[name=follow]")) choice.addEventListener("change", () => this.draw());
         // A button that was pressed with a pointer gives the keyboard back to the dock.
         addEventListener("click", ({ target, detail }) => detail > 0 && target.closest("button, select, .check")?.blur?.());
@@ -197,7 +205,7 @@ class Page {
     get followed() {
         const { machine } = this.dock;
         const { value } = document.querySelector("[name=follow]:checked");
-        return { pc: machine.pc, i: machine.i, own: this.typed(find("at")) ?? 0 }[value];
+        return { pc: machine.pc, i: machine.i, own: addressIn(find("at").value.trim()) ?? 0 }[value];
     }
 
     draw() {

@@ -108,7 +108,7 @@ class Terminal {
             home: () => dock.seek(0),
             end: () => dock.seek(machine.kept + machine.ahead),
             t: () => dock.tick(),
-            b: () => this.type("Break at (in hex; nothing for none): ", (text) => this.breakAt(text)),
+            b: () => this.type("Break at (in hex; nothing for none): ", (text) => dock.typeBreak(text)),
             "+": () => this.faster(1),
             "-": () => this.faster(-1),
             p: () => (this.view.variables = !this.view.variables),
@@ -125,11 +125,6 @@ class Terminal {
         this.dock.running && this.dock.pause();
         this.view.text = text;
         this.answer = () => {};
-    }
-
-    breakAt(text) {
-        if (text !== "" && !/^[0-9a-f]{1,4}$/i.test(text)) return this.dock.say(`${text} is no address.`);
-        this.dock.breakAt = text === "" ? undefined : parseInt(text, 16);
     }
 
     faster(by) {

@@ -132,7 +132,20 @@ const TESTS = {
         await browser.click("#run");
         await until("the break", async () => (await said(browser)) === "The break at 020E is reached.");
         assert.equal(await cell(browser, "PC"), "020E");
-        await browser.run(() => page.breakAt(undefined));
+        await browser.type("#break", `xy${ENTER}`);
+        assert.equal(await said(browser), "020Exy is no address in hex. The break stays as it was.");
+        assert.equal(await browser.run(() => document.getElementById("break").value), "020E");
+        await browser.run(() => (document.getElementById("break").value = ""));
+        await browser.type("#break", `0x210${ENTER}`);
+        assert.deepEqual([await browser.run(() => page.dock.breakAt), await said(browser)], [0x210, ""]);
+        await browser.type("#at", `x${ENTER}`);
+        assert.equal(await said(browser), "0200x is no address in hex.");
+        await browser.run(() => {
+            document.getElementById("at").value = "0200";
+            page.follow("0200", true);
+            document.querySelector('[name=follow][value="pc"]').click();
+            page.breakAt(undefined);
+        });
     },
 
     async "the 2K profile and the first edition are chosen for the next load"(browser) {

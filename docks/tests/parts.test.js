@@ -102,6 +102,30 @@ test("a run pauses before the break, and goes on from it", async () => {
     }
 });
 
+test("a break is typed in hex, marked as such or not, and only where memory is", async () => {
+    const dock = await dockWith("digits.ch8");
+    for (const typed of ["20e", "020E", "0x20E", "0X020e", "#20E", " 20E "]) {
+        dock.breakAt = undefined;
+        dock.say("an old message");
+        dock.typeBreak(typed);
+        assert.deepEqual([dock.breakAt, dock.said.text], [0x20e, ""]);
+    }
+    for (const typed of ["xyz", "0x", "#", "12345", "0x 20E", "20E."]) {
+        dock.typeBreak(typed);
+        assert.deepEqual([dock.breakAt, dock.said.text], [0x20e, `${typed} is no address in hex. The break stays as it was.`]);
+    }
+    dock.typeBreak("1000");
+    assert.deepEqual([dock.breakAt, dock.said.text], [0x20e, "1000 is not in memory, which ends at 1000. The break stays as it was."]);
+    dock.typeBreak("");
+    assert.deepEqual([dock.breakAt, dock.said.text], [undefined, ""]);
+    dock.load("small", Uint8Array.of(0x12, 0x00), 1, SMALL_END);
+    dock.typeBreak("69F");
+    assert.equal(dock.breakAt, 0x69f);
+    dock.typeBreak("6A0");
+    assert.equal(dock.breakAt, 0x69f);
+    assert.match(dock.said.text, /^06A0 is not in memory, which ends at 06A0\./);
+});
+
 test("a refused step ends a run, stays on the screen and is stepped back from", async () => {
     const dock = await dockWith("again.ch8");
     dock.start();
