@@ -214,7 +214,7 @@ export class Dock {
         this.machine.put(parts);
         this.before.copy(this.machine);
         Object.assign(this, { name, program: undefined, running: false });
-        this.say(`${name} is open, with ${this.machine.kept} actions kept and ${this.machine.ahead} ahead.`);
+        this.say(`${name} is open, with ${counted(this.machine.kept, "action")} kept and ${this.machine.ahead} ahead.`);
     }
 
     /** Whether the last refusal was of a damaged record, so that a salvage helps. */
@@ -230,7 +230,7 @@ export class Dock {
     }
 
     salvage() {
-        if (this.act("Salvage", () => this.machine.salvage())) this.say(`Salvaged: ${this.machine.kept} records are kept.`);
+        if (this.act("Salvage", () => this.machine.salvage())) this.say(`Salvaged, with ${counted(this.machine.kept, "record")} kept.`);
     }
 }
 
@@ -250,10 +250,10 @@ export class Pace {
 
 /** What a salvage would do, in lines: what would be kept, and the places that would be cleared, row by row. */
 export function salvageInWords({ keeps, of, cleared }) {
-    const lines = [`Of ${of} kept records the newest ${keeps} are sound and would stay.`];
+    const lines = [`Of ${counted(of, "kept record")} the newest ${keeps} would stay, being sound.`];
     for (const was of ["kept", "ahead", "free"]) {
         const places = cleared.filter((entry) => entry.was === was).map((entry) => entry.place);
-        if (places.length > 0) lines.push(`Cleared would be ${places.length} that count as ${was}: ${inRows(places)}.`);
+        if (places.length > 0) lines.push(`Cleared would be ${counted(places.length, "place")} that counted as ${was}: ${inRows(places)}.`);
     }
     return lines;
 }

@@ -2,7 +2,7 @@
 // the instruction, the memory at PC and at I, and what is said. It is made of lines and touches nothing.
 
 import { NO_KEY } from "../machine.js";
-import { EDITIONS, hex } from "../words.js";
+import { counted, EDITIONS, hex } from "../words.js";
 
 export const COLUMNS = 80;
 export const LINES = 24;
@@ -99,7 +99,7 @@ export function screen(dock, view, height = LINES) {
     const hints = style.soft(dock.isDamaged ? "Y  salvage the history" : HINTS);
     const spoken = dock.said.refused && !view.typing ? style.refused : (line) => line;
     const keys = view.down.map((key) => hex(key, 1)).join(" ");
-    const doing = running ? `${dock.stepsAFrame} steps a frame` : keys && `down: ${keys}`;
+    const doing = running ? `${counted(dock.stepsAFrame, "step")} a frame` : keys && `down: ${keys}`;
     return [
         ...picture.map((line, n) => line + beside[n]),
         timeline(now, style),

@@ -250,10 +250,10 @@ const TESTS = {
         worn[HISTORY_AT + 19 * PLACE] ^= 1;
         await browser.type("#file", file("worn.card", worn));
         await until("the question", () => browser.run(() => document.getElementById("salvage").open));
-        assert.match(await browser.text("#salvage-lines"), /Of 30 kept records the newest 10 are sound/);
+        assert.match(await browser.text("#salvage-lines"), /Of 30 kept records the newest 10 would stay/);
         assert.equal(await kept(browser), 30);
         await browser.click('#salvage [value="salvage"]');
-        await until("salvaged", async () => (await said(browser)) === "Salvaged: 10 records are kept.");
+        await until("salvaged", async () => (await said(browser)) === "Salvaged, with 10 records kept.");
         assert.equal(await kept(browser), 10);
         await browser.keys(HOME);
         assert.deepEqual([await kept(browser), await ahead(browser)], [0, 10]);

@@ -10,7 +10,7 @@ import { Dock, Pace, READ_MOST, salvageInWords } from "../dock.js";
 import { PROGRAMS } from "../programs.js";
 import { read } from "../read.js";
 import { COLUMNS, LINES, screen, STYLES } from "../terminal/screen.js";
-import { hex, instruction } from "../words.js";
+import { counted, hex, instruction } from "../words.js";
 
 const wasm = readFileSync(new URL("../../target/dock/card.wasm", import.meta.url));
 const card = () => Card.from(wasm);
@@ -244,9 +244,9 @@ test("a worn history is offered a salvage, and nothing is changed before", async
     assert.deepEqual([salvage.keeps, salvage.of, salvage.cleared.length], [10, 40, 214]);
     assert.deepEqual(salvage.cleared[29], { place: 29, was: "kept" });
     assert.deepEqual(salvageInWords(salvage), [
-        "Of 40 kept records the newest 10 are sound and would stay.",
-        "Cleared would be 30 that count as kept: 0 to 29.",
-        "Cleared would be 184 that count as free: 40 to 223.",
+        "Of 40 kept records the newest 10 would stay, being sound.",
+        "Cleared would be 30 places that counted as kept: 0 to 29.",
+        "Cleared would be 184 places that counted as free: 40 to 223.",
     ]);
     dock.open("worn", parts);
     dock.seek(0);
@@ -258,6 +258,27 @@ test("a worn history is offered a salvage, and nothing is changed before", async
     dock.seek(0);
     assert.ok(!dock.said.refused);
     assert.equal(dock.look(dock.save()).salvage, undefined);
+});
+
+test("one of a thing is said as one", async () => {
+    const dock = await dockWith("night.ch8");
+    dock.step(0);
+    const file = dock.save();
+    dock.open("one.card", dock.look(file).parts);
+    assert.equal(dock.said.text, "one.card is open, with 1 action kept and 0 ahead.");
+    dock.salvage();
+    assert.equal(dock.said.text, "Salvaged, with 1 record kept.");
+    file[HISTORY_AT] ^= 1;
+    const [first, second] = salvageInWords(dock.look(file).salvage);
+    assert.equal(first, "Of 1 kept record the newest 0 would stay, being sound.");
+    assert.equal(second, "Cleared would be 1 place that counted as kept: 0.");
+    assert.deepEqual([0, 1, 2000].map((number) => counted(number, "step")), ["0 steps", "1 step", "2,000 steps"]);
+    for (const [steps, words] of [[1, "1 step a frame"], [1000, "1,000 steps a frame"]]) {
+        dock.stepsAFrame = steps;
+        dock.start();
+        const line = screen(dock, { style: STYLES.plain, down: [] })[18].replace(/\x1b\[[0-9;]*m/g, "");
+        assert.ok(line.endsWith(` ${words}`) && line.length <= COLUMNS, line);
+    }
 });
 
 test("a worn record that is ahead is found as well", async () => {

@@ -4,7 +4,7 @@
 
 import assert from "node:assert/strict";
 import { spawn, spawnSync } from "node:child_process";
-import { copyFileSync, mkdtempSync, rmSync, writeFileSync } from "node:fs";
+import { copyFileSync, mkdtempSync, readFileSync, rmSync, writeFileSync } from "node:fs";
 import { tmpdir } from "node:os";
 import { join } from "node:path";
 import { setTimeout as wait } from "node:timers/promises";
@@ -21,7 +21,7 @@ class Screen {
     }
     /** What stands on the screen: each drawing begins at its upper left corner. */
     get text() {
-        return this.drawn.split("\x1b[H").at(-1).replace(/\x1b\[[0-9;?]*[a-zA-Z]/g, "");
+        return this.drawn.split("\x1b[H").at(-1).replace(/\x1b\[[0-9;?]*[a-zA-Z]|\r/g, "");
     }
     async until(pattern) {
         for (let tries = 0; tries < 200; tries++) {
@@ -56,10 +56,19 @@ screen.press(LEFT + LEFT + LEFT);
 await screen.until(/Back: refused with 7/);
 screen.press("b");
 await screen.until(/Break at/);
-screen.press(`208${ENTER} `);
+// Ctrl-C cancels what is typed, as Escape does, and does not quit.
+screen.press(`208\x03b1000${ENTER}`);
+await screen.until(/1000 is not in memory, which ends at 1000/);
+screen.press("b");
+await screen.until(/Break at, in hex, or nothing for none \(Escape cancels\): /);
+screen.press(`0x208${ENTER}`);
+await screen.until(/Break {2}0208/);
+assert.doesNotMatch(screen.text, /is not in memory/);
+screen.press(" ");
 await screen.until(/The break at 0208 is reached/);
 screen.press("?");
 await screen.until(/to the start, to the end of the timeline/);
+await screen.until(/1 2 3 4   Q W E R   A S D F   Z X C V.*\s+Card's key   1 2 3 C   4 5 6 D   7 8 9 E   A 0 B F/);
 await screen.quit();
 console.log("  steps, backs, forwards, a refusal, a break and the help are shown, and the terminal is given back");
 
@@ -80,13 +89,31 @@ files.press(`o/dev/zero${ENTER}`);
 await files.until(/zero was not opened: it is no ordinary file/);
 files.press(`k${file("own.card")}${ENTER}`);
 await files.until(/The card was saved as/);
+files.press(`k${file("none/own.card")}${ENTER}`);
+await files.until(/The card was not saved as\s.*own.card:\sthere\sis\sno\ssuch\sfolder\./);
+files.press(`${ENTER}k${file("own.card")}${ENTER}`);
+await files.until(/own.card is\sthere\salready;\sy\swrites\sover\sit\s\(Escape\scancels\):/);
+files.press(ENTER);
+await files.until(/The card was not saved:\s.*own.card is\sthere\salready\./);
+assert.equal(readFileSync(file("own.card"))[8 + 50 + 1], 1);
+files.press(`k${file("own.card")}${ENTER}y${ENTER}`);
+await files.until(/The card was saved as/);
+assert.equal(readFileSync(file("own.card"))[8 + 50 + 1], 2);
+const worn = readFileSync(file("own.card"));
+worn[8 + 64 + 4096 + 256] ^= 1;
+writeFileSync(file("worn.card"), worn);
+files.press(`o${file("worn.card")}${ENTER}`);
+await files.until(/The history of worn.card is worn\./);
+assert.doesNotMatch(files.text, /was saved as/);
+files.press("x");
+await files.until(/worn.card was not opened: you left it/);
 files.press(`o${file("own.card")}${ENTER}`);
 await files.until(/own.card is open/);
 files.press("l");
 await files.until(/There is no program to load again: own.card is a card's file/);
 await files.quit();
 rmSync(folder, { recursive: true });
-console.log("  a program is loaded again as its file is now; a device is not opened; a card is saved and opened");
+console.log("  a program is loaded again as its file is now; a device is not opened; a card is saved, written over and opened");
 
 const small = new Screen(79, 24);
 await small.until(/The dock needs 80 columns and 24 lines; this terminal has 79 and 24/);
