@@ -104,6 +104,24 @@ export class Dock {
         return this.act("Forward", () => this.machine.forward());
     }
 
+    /** Takes a whole frame back: its steps, and the tick before them. */
+    backFrame() {
+        const { machine } = this;
+        let isTick;
+        do {
+            isTick = machine.lastIsTick;
+            if (!this.back()) return;
+        } while (!isTick && machine.kept > 0);
+    }
+
+    /** Goes forward to where the next frame begins with its tick, or to the end of what is ahead. */
+    forwardFrame() {
+        const { machine } = this;
+        do {
+            if (!this.forward()) return;
+        } while (machine.ahead > 0 && !machine.nextIsTick);
+    }
+
     /** Goes along the timeline to where `kept` actions are kept, by backs and forwards and nothing else. */
     seek(kept) {
         this.running = false;
@@ -166,8 +184,10 @@ export class Dock {
         const text = typed.trim();
         const address = addressIn(text);
         const { end } = this.machine;
-        if (text !== "" && address === undefined) return this.say(`${text} is no address in hex. The break stays as it was.`);
-        if (address >= end) return this.say(`${hex(address, 4)} is not in memory, which ends at ${hex(end, 4)}. The break stays as it was.`);
+        let wrong;
+        if (text !== "" && address === undefined) wrong = `${text} is no address in hex`;
+        if (address >= end) wrong = `${hex(address, 4)} is not in memory, which ends at ${hex(end, 4)}`;
+        if (wrong) return this.say(`${wrong}. The break stays as it was.`);
         this.breakAt = address;
         this.say("");
     }

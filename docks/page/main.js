@@ -172,6 +172,11 @@ class Page {
                 Home: () => this.make(() => dock.seek(0)),
                 End: () => this.make(() => dock.seek(dock.machine.kept + dock.machine.ahead)),
             }),
+            // The timeline by itself would go by tenths, and PageUp forward.
+            ...(!target.closest("select") && {
+                PageUp: () => this.make(() => dock.backFrame()),
+                PageDown: () => this.make(() => dock.forwardFrame()),
+            }),
             t: () => this.make(() => dock.tick()),
             b: () => find("break").select(),
             p: () => find("variables").click(),

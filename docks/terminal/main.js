@@ -19,6 +19,7 @@ const HELP = `
   Space        run, or pause
   Enter        step, with the keys that are down
   ← →          back; forward, which makes it again as it was
+  PgUp PgDn    the same by whole frames: the steps and their tick
   Home End     to the start, to the end of the timeline
   T            a tick of the clock; a run makes 60 a second
   B            a break at an address
@@ -129,6 +130,8 @@ class Terminal {
             return: () => dock.step(this.keys.bits),
             left: () => dock.back(),
             right: () => dock.forward(),
+            pageup: () => dock.backFrame(),
+            pagedown: () => dock.forwardFrame(),
             home: () => dock.seek(0),
             end: () => dock.seek(machine.kept + machine.ahead),
             t: () => dock.tick(),

@@ -16,6 +16,7 @@ const [html, folder] = process.argv.slice(2);
 const url = pathToFileURL(html).href;
 const own = (name) => new URL(`../../programs/${name}`, import.meta.url).pathname;
 const [ENTER, LEFT, RIGHT, HOME, END, ESCAPE] = ["\uE007", "\uE012", "\uE014", "\uE011", "\uE010", "\uE00C"];
+const [PAGE_UP, PAGE_DOWN] = ["\uE00E", "\uE00F"];
 const HISTORY_AT = 8 + 64 + 4096 + 256;
 
 const temporary = mkdtempSync(join(tmpdir(), "dock-"));
@@ -109,6 +110,11 @@ const TESTS = {
         assert.notEqual(await shown(browser), before);
         await browser.keys(...Array(10).fill(RIGHT));
         assert.equal(await shown(browser), before);
+        // A frame is a tick and ten steps.
+        await browser.keys(PAGE_UP, PAGE_UP, PAGE_UP);
+        assert.deepEqual([await kept(browser), await ahead(browser)], [191, 33]);
+        await browser.keys(PAGE_DOWN);
+        assert.deepEqual([await kept(browser), await ahead(browser)], [202, 22]);
         await browser.keys(HOME);
         assert.equal(await kept(browser), 0);
         await browser.keys(END, " ");
@@ -181,7 +187,7 @@ const TESTS = {
         await browser.run(() => page.loadListed("again.ch8"));
         await browser.click("#run");
         await until("refused", async () => (await said(browser)).includes("refused with 3"));
-        assert.match(await said(browser), /^Step: refused with 3, a call into machine language.*\(00FD at 0218\)\. This step changed nothing/);
+        assert.match(await said(browser), /^Step: refused with 3, a call into machine.*\(00FD at 0218\)\. This step changed nothing;/);
         const before = await shown(browser);
         const past = [await kept(browser), await ahead(browser)];
         await browser.click("#run");
@@ -242,6 +248,7 @@ const TESTS = {
         await browser.type("#file", saved);
         await until("open", async () => (await said(browser)).startsWith("night.card is open, with 30 actions kept"));
         assert.equal(await shown(browser), before);
+        assert.match(await browser.run(() => document.getElementById("again").title), /as it was when its file was opened/);
         await browser.click("#again");
         assert.match(await said(browser), /^There is no program to load again: night.card is a card's file/);
         assert.equal(await shown(browser), before);
@@ -262,6 +269,7 @@ const TESTS = {
     async "help opens and closes"(browser) {
         await browser.keys("?");
         assert.ok(await browser.run(() => document.getElementById("keys-help").open));
+        assert.match(await browser.text("#keys-help"), /PageUp, PageDown .*whole frames/);
         await browser.keys(ESCAPE);
         await until("closed", () => browser.run(() => !document.getElementById("keys-help").open));
     },

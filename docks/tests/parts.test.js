@@ -90,6 +90,42 @@ test("a run makes a tick and N steps a frame, and marks its last action", async 
     assert.equal(dock.before.ahead, 1);
 });
 
+test("whole frames are taken back and made again, in a history that went round as well", async () => {
+    const dock = await dockWith("squash.ch8");
+    const { machine } = dock;
+    dock.stepsAFrame = 7;
+    dock.step(0);
+    // Before each tick, from the last to the first that are kept; then the start.
+    for (const [frames, stops] of [[3, [17, 9, 1, 0]], [40, [216, 208, 200, 192]]]) {
+        dock.start();
+        for (let n = 0; n < frames; n++) dock.frame(0);
+        const states = [all(machine)];
+        for (const kept of stops) {
+            dock.backFrame();
+            assert.equal(machine.kept, kept);
+            states.push(all(machine));
+        }
+        for (const state of states.reverse().slice(1)) {
+            dock.forwardFrame();
+            assert.deepEqual(all(machine), state);
+        }
+        assert.equal(machine.ahead, 0);
+        assert.equal(dock.said.text, "");
+    }
+    dock.forwardFrame();
+    assert.match(dock.said.text, /^Forward: refused with 12/);
+    dock.seek(0);
+    dock.backFrame();
+    assert.match(dock.said.text, /^Back: refused with 7/);
+    // From the middle of a frame: back to before its tick, and forward to its end.
+    dock.seek(3);
+    dock.backFrame();
+    assert.equal(machine.kept, 0);
+    dock.seek(3);
+    dock.forwardFrame();
+    assert.equal(machine.kept, 8);
+});
+
 test("a run pauses before the break, and goes on from it", async () => {
     const dock = await dockWith("digits.ch8");
     dock.breakAt = 0x0202;
@@ -131,7 +167,8 @@ test("a refused step ends a run, stays on the screen and is stepped back from", 
     dock.start();
     for (let n = 0; n < 5; n++) if (dock.running) dock.frame(0);
     assert.ok(!dock.running);
-    assert.match(dock.said.text, /Step: refused with 3, .* \(00FD at 0218\)\. This step changed nothing; the tick and the steps before it stand\.$/);
+    assert.match(dock.said.text, /^Step: refused with 3, a call into machine language.* \(00FD at 0218\)\. This step changed nothing; /);
+    assert.match(dock.said.text, /; the tick and the steps before it stand\.$/);
     assert.equal(dock.machine.lit, 76);
     assert.ok(dock.back());
 });

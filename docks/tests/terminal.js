@@ -43,6 +43,7 @@ class Screen {
 const ENTER = "\r";
 const LEFT = "\x1b[D";
 const RIGHT = "\x1b[C";
+const [PAGE_UP, PAGE_DOWN] = ["\x1b[5~", "\x1b[6~"];
 
 const screen = new Screen(80, 24);
 await screen.until(/is loaded, for the second edition/);
@@ -66,8 +67,14 @@ await screen.until(/Break {2}0208/);
 assert.doesNotMatch(screen.text, /is not in memory/);
 screen.press(" ");
 await screen.until(/The break at 0208 is reached/);
+screen.press(`tt${PAGE_UP}${PAGE_UP}`);
+await screen.until(/kept 5, ahead 2/);
+screen.press(PAGE_UP);
+await screen.until(/kept 0, ahead 7/);
+screen.press(PAGE_DOWN);
+await screen.until(/kept 5, ahead 2/);
 screen.press("?");
-await screen.until(/to the start, to the end of the timeline/);
+await screen.until(/PgUp PgDn .*whole frames[^]*to the start, to the end of the timeline[^]*and the next frees it\./);
 await screen.until(/1 2 3 4   Q W E R   A S D F   Z X C V.*\s+Card's key   1 2 3 C   4 5 6 D   7 8 9 E   A 0 B F/);
 await screen.quit();
 console.log("  steps, backs, forwards, a refusal, a break and the help are shown, and the terminal is given back");
