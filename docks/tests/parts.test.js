@@ -124,6 +124,13 @@ test("whole frames are taken back and made again, in a history that went round a
     dock.seek(3);
     dock.forwardFrame();
     assert.equal(machine.kept, 8);
+    // The tick has the last place, and the steps after it the first ones.
+    dock.load("squash.ch8", own("squash.ch8"), 1);
+    for (let n = 0; n < 223; n++) dock.step(0);
+    dock.tick();
+    for (let n = 0; n < 3; n++) dock.step(0);
+    dock.backFrame();
+    assert.deepEqual([machine.next, machine.kept, machine.ahead], [223, 220, 4]);
 });
 
 test("a run pauses before the break, and goes on from it", async () => {
