@@ -5,36 +5,40 @@
 here=$(pwd)
 . "$root/.ci/proved.sh"
 
+# An option may stand before the file or behind it. Behind -- every word is a file.
 prove=no
 words=''
-while [ $# -gt 0 ]; do
-    case $1 in
-    --prove) prove=yes ;;
-    --help) break ;;
-    --*)
-        case " ${options:-} " in *" $1 "*) ;; *) die "there is no $1; ./$script --help says what there is" ;; esac
-        words="$words $1"
+name=''
+named=0
+files_only=no
+for word; do
+    case $files_only$word in
+    no--) files_only=yes ;;
+    no--prove) prove=yes ;;
+    no-h | no--help) sed -n '2,/^$/s/^# \{0,1\}//p' "$0" | sed '/^set /,$d'; exit 0 ;;
+    no-?*)
+        case " ${options:-} " in *" $word "*) ;; *) die "there is no $word; ./$script --help says what there is" ;; esac
+        words="$words $word"
         ;;
-    *) break ;;
+    *)
+        name=$word
+        named=$((named + 1))
+        ;;
     esac
-    shift
 done
-case ${1:-} in
--h | --help) sed -n '2,/^$/s/^# \{0,1\}//p' "$0" | sed '/^set /,$d'; exit 0 ;;
-esac
-[ $# -le 1 ] || die "one file at a time: ./$script FILE"
+[ "$named" -le 1 ] || die "one file at a time: ./$script FILE"
 
 # ---- the CHIP-8 program
 
 work=$(mktemp -d) || die "cannot make a temporary folder"
 trap 'rm -rf "$work"' EXIT
 trap 'exit 130' INT TERM
-if [ $# -eq 1 ] && [ "$1" != - ]; then
-    case $1 in /*) file=$1 ;; *) file=$here/$1 ;; esac
-    [ -e "$file" ] || die "there is no file $1"
-    [ ! -d "$file" ] || die "$1 is a folder and not a program"
-    [ -r "$file" ] || die "the file $1 cannot be read"
-elif [ $# -eq 1 ] || [ -p /dev/stdin ] || [ -f /dev/stdin ]; then
+if [ "$named" -eq 1 ] && [ "$name" != - ]; then
+    case $name in /*) file=$name ;; *) file=$here/$name ;; esac
+    [ -e "$file" ] || die "there is no file $name"
+    [ ! -d "$file" ] || die "$name is a folder and not a program"
+    [ -r "$file" ] || die "the file $name cannot be read"
+elif [ "$named" -eq 1 ] || [ -p /dev/stdin ] || [ -f /dev/stdin ]; then
     file=$work/stdin
     cat >"$file"
 else
@@ -90,7 +94,10 @@ run_unproved() {
     until (cd "$work" && "$rt" try "$program") >"$work/said" 2>&1; do
         more=$(sed -n 's/^on standard output, at byte [0-9]*, expected "", found "\([^"]*\)".*/\1/p' "$work/said" | head -n 1)
         [ -n "$more" ] || { cat "$work/said" >&2; die "the program did not compile or run"; }
-        printf '%b' "$(printf '%s\n' "$more" | octal)" | tee -a "$trial/stdout"
+        printf '%b' "$(printf '%s\n' "$more" | octal)" >"$work/more"
+        cat "$work/more" >>"$trial/stdout"
+        # Whoever reads may have gone, as head does.
+        cat "$work/more" 2>/dev/null || exit 141
     done
 }
 

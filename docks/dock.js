@@ -3,10 +3,12 @@
 
 import { FULL_END, LIST_MOST, Machine } from "./machine.js";
 import { fileOf, isCardFile, partsIn } from "./card-file.js";
-import { digitsAt, hex, instruction, REFUSALS } from "./words.js";
+import { addressIn, counted, digitsAt, EDITIONS, hex, hint, instruction, REFUSALS } from "./words.js";
 
 const DAMAGED = 11;
-export const EDITIONS = ["first", "second"];
+
+/** More than the largest file that could be meant has. Of a larger one this much and one byte more is read. */
+export const READ_MOST = 100_000;
 
 const randomByte = () => Math.floor(256 * Math.random());
 
@@ -30,9 +32,9 @@ export class Dock {
         this.said = { text, refused: false };
     }
 
-    /** Says what was asked, why the card refused it, and that it left everything. */
-    refuse(asked, number, where = "") {
-        this.said = { text: `${asked}: refused with ${number}, ${REFUSALS[number]}${where}. Nothing was changed.`, refused: true, number };
+    /** Says what was asked, why the card refused it, and what it left. */
+    refuse(asked, number, where = "", left = "Nothing was changed.") {
+        this.said = { text: `${asked}: refused with ${number}, ${REFUSALS[number]}${where}. ${left}`, refused: true, number };
     }
 
     /** Says why a file was not opened. */
@@ -49,7 +51,9 @@ export class Dock {
 
     /** Where a refused step stood, for the sentence about it. */
     get where() {
-        return ` (${this.instruction.digits || "nothing"} at ${hex(this.machine.pc, 4)})`;
+        const { pc, edition } = this.machine;
+        const { digits } = this.instruction;
+        return ` (${digits || "nothing"} at ${hex(pc, 4)}${hint(digits, edition)})`;
     }
 
     // ---- load
@@ -58,14 +62,22 @@ export class Dock {
     load(name, program, edition, end = FULL_END) {
         const refusal = this.machine.load(program, edition, end);
         if (refusal !== 0) {
-            const size = program.length === 0 ? "the file is empty" : `the file has ${program.length.toLocaleString("en")} bytes`;
-            this.refuse(`Load ${name}`, refusal, `, and ${size}`);
+            const more = program.length > READ_MOST ? "more than " : "";
+            const has = `has ${more}${counted(Math.min(program.length, READ_MOST), "byte")}`;
+            this.refuse(`Load ${name}`, refusal, `, and the file ${program.length === 0 ? "is empty" : has}`);
             return false;
         }
         Object.assign(this, { name, program, running: false });
         this.before.copy(this.machine);
         this.say(`${name} is loaded, for the ${EDITIONS[edition]} edition${end === FULL_END ? "" : " and the 2K profile"}.`);
         return true;
+    }
+
+    /** Whether there is a program to load again; where there is none, it says so. */
+    hasProgram() {
+        if (this.program) return true;
+        this.say(`There is no program to load again: ${this.name} is a card's file, and holds the machine alone.`);
+        return false;
     }
 
     // ---- single actions
@@ -92,6 +104,24 @@ export class Dock {
         return this.act("Forward", () => this.machine.forward());
     }
 
+    /** Takes a whole frame back: its steps, and the tick before them. */
+    backFrame() {
+        const { machine } = this;
+        let isTick;
+        do {
+            isTick = machine.lastIsTick;
+            if (!this.back()) return;
+        } while (!isTick && machine.kept > 0);
+    }
+
+    /** Goes forward to where the next frame begins with its tick, or to the end of what is ahead. */
+    forwardFrame() {
+        const { machine } = this;
+        do {
+            if (!this.forward()) return;
+        } while (machine.ahead > 0 && !machine.nextIsTick);
+    }
+
     /** Goes along the timeline to where `kept` actions are kept, by backs and forwards and nothing else. */
     seek(kept) {
         this.running = false;
@@ -102,10 +132,9 @@ export class Dock {
 
     // ---- run
 
-    /** A run that is begun where the break is goes on past it. */
     start() {
         this.running = true;
-        this.passBreak = true;
+        this.begins = true;
         this.say("");
     }
 
@@ -114,31 +143,53 @@ export class Dock {
         this.markLast();
     }
 
-    /** One frame of a run: a tick, and then the steps. */
+    /** One frame of a run: a tick, and then the steps. A run that begins where a step is refused is that step, without a tick. */
     frame(keys) {
+        if (this.begins && this.isRefused(keys)) return void this.step(keys);
         const refusal = this.breakAt === undefined ? this.runFreely(keys) : this.runToBreak(keys);
         if (refusal === 0) return;
         this.pause();
-        this.refuse("Step", refusal, this.where);
+        this.refuse("Step", refusal, this.where, "This step changed nothing; the tick and the steps before it stand.");
+    }
+
+    /** Whether the next step would be refused; it is tried on a copy. */
+    isRefused(keys) {
+        this.trial.copy(this.machine);
+        return this.trial.step(keys, 0) !== 0;
     }
 
     runFreely(keys) {
+        this.begins = false;
         const randoms = Uint8Array.from({ length: Math.min(this.stepsAFrame, LIST_MOST) }, randomByte);
         return this.machine.run(1, keys, randoms);
     }
 
+    /** A run that begins where the break is goes on past it. */
     runToBreak(keys) {
         let refusal = this.machine.tick();
         for (let n = 0; n < this.stepsAFrame && refusal === 0; n++) {
-            if (this.machine.pc === this.breakAt && !this.passBreak) {
+            if (this.machine.pc === this.breakAt && !this.begins) {
                 this.pause();
                 this.say(`The break at ${hex(this.breakAt, 4)} is reached.`);
                 return 0;
             }
-            this.passBreak = false;
+            this.begins = false;
             refusal = this.machine.step(keys, randomByte());
         }
         return refusal;
+    }
+
+    /** Sets the break as it was typed, in hex; nothing takes it away. What is no address in memory leaves it, and that is said. */
+    typeBreak(typed) {
+        const text = typed.trim();
+        const address = addressIn(text);
+        const { end } = this.machine;
+        let wrong;
+        if (text !== "" && address === undefined) wrong = `${text} is no address in hex`;
+        if (address >= end) wrong = `${hex(address, 4)} is not in memory, which ends at ${hex(end, 4)}`;
+        if (wrong) return this.say(`${wrong}. The break stays as it was.`);
+        this.breakAt = address;
+        this.say("");
     }
 
     /** After a run: what stood before its last action is found by a back, on a copy. */
@@ -183,7 +234,7 @@ export class Dock {
         this.machine.put(parts);
         this.before.copy(this.machine);
         Object.assign(this, { name, program: undefined, running: false });
-        this.say(`${name} is open, with ${this.machine.kept} actions kept and ${this.machine.ahead} ahead.`);
+        this.say(`${name} is open, with ${counted(this.machine.kept, "action")} kept and ${this.machine.ahead} ahead.`);
     }
 
     /** Whether the last refusal was of a damaged record, so that a salvage helps. */
@@ -199,7 +250,7 @@ export class Dock {
     }
 
     salvage() {
-        if (this.act("Salvage", () => this.machine.salvage())) this.say(`Salvaged: ${this.machine.kept} records are kept.`);
+        if (this.act("Salvage", () => this.machine.salvage())) this.say(`Salvaged, with ${counted(this.machine.kept, "record")} kept.`);
     }
 }
 
@@ -219,10 +270,10 @@ export class Pace {
 
 /** What a salvage would do, in lines: what would be kept, and the places that would be cleared, row by row. */
 export function salvageInWords({ keeps, of, cleared }) {
-    const lines = [`Of ${of} kept records the newest ${keeps} are sound and would stay.`];
+    const lines = [`Of ${counted(of, "kept record")} the newest ${keeps} would stay, being sound.`];
     for (const was of ["kept", "ahead", "free"]) {
         const places = cleared.filter((entry) => entry.was === was).map((entry) => entry.place);
-        if (places.length > 0) lines.push(`Cleared would be ${places.length} that count as ${was}: ${inRows(places)}.`);
+        if (places.length > 0) lines.push(`Cleared would be ${counted(places.length, "place")} that counted as ${was}: ${inRows(places)}.`);
     }
     return lines;
 }

@@ -144,6 +144,19 @@ export class Machine {
         return Math.floor(this.history.length / PLACE);
     }
 
+    /** Whether the record in a place is that of a tick; else it is that of a step. */
+    isTick(place) {
+        return this.history[place * PLACE + PLACE - 1] === 0;
+    }
+    /** Whether a back would take a tick back. */
+    get lastIsTick() {
+        return this.isTick((this.next + this.places - 1) % this.places);
+    }
+    /** Whether a forward would make a tick again. */
+    get nextIsTick() {
+        return this.isTick(this.next);
+    }
+
     /** How many steps the last step or run made. */
     get accepted() {
         return Number(this.answer[0]);

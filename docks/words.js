@@ -2,6 +2,11 @@
 
 export const hex = (number, digits) => number.toString(16).toUpperCase().padStart(digits, "0");
 
+/** A number of things: 1 byte, 2,000 bytes. */
+export const counted = (number, thing) => `${number.toLocaleString("en")} ${thing}${number === 1 ? "" : "s"}`;
+
+export const EDITIONS = ["first", "second"];
+
 /**
  * The instructions in the order of the rules: the digits, and what they do. X and Y stand for a variable, KK and MMM for
  * the numbers themselves, N for that many rows. Those of the second edition alone come last.
@@ -62,6 +67,19 @@ export function instruction(digits, edition) {
         if (found) return does.replace(/MMM|KK|(?<=V)[XY]|\bN\b/g, (part) => (part === "N" ? rows(found.groups.N) : found.groups[part]));
     }
     return digits.startsWith("0") ? "a call into machine language" : "no instruction of this edition";
+}
+
+/** What may help where the instruction of these digits is refused. */
+export function hint(digits, edition) {
+    if (digits === "0000") return "; PC probably ran past the program";
+    const [inFirst, inSecond] = LISTED.map((listed) => listed.some(({ pattern }) => pattern.test(digits)));
+    return edition === 0 && inSecond && !inFirst ? "; the second edition has it" : "";
+}
+
+/** The address that a person typed in hex, also as 0x20E and #20E; nothing where it is none. */
+export function addressIn(text) {
+    const digits = text.match(/^(?:0x|#)?([0-9a-f]{1,4})$/i)?.[1];
+    return digits && parseInt(digits, 16);
 }
 
 /** The four digits at an address, or nothing where memory ends before them. */

@@ -26,8 +26,9 @@
  *
  *   image    64 bytes      registers, stack, timers, history numbers and the
  *                          number of lit spots
- *   memory   4,096 bytes   the program and its data; also in the 2K profile, which
- *                          leaves those from 06A0 on alone
+ *   memory   4,096 bytes   the program and its data; also in the 2K profile, where
+ *                          a load clears those from 06A0 on, and no other call
+ *                          reads or writes them
  *   rows     32 numbers    64 by 32 spots, a number of 64 bits for each row, top
  *                          row first, the highest bit leftmost, 1 for a lit spot
  *   history  292 to 65,536 bytes, a place of 292 bytes for each action that can
@@ -72,11 +73,14 @@
  *     will do then. It must be aligned for its type.
  *   - No buffer that is written overlaps another of the same call. Two that are
  *     only read may: a run's ticks and random bytes can be one list of zeros.
+ *   - A history keeps its length from one load to the next, since next, kept and
+ *     ahead count its places.
  *   - Any contents are allowed. A state that cannot be is refused with
  *     CARD_UNSOUND; a history that somebody else wrote in, or that has worn, may
- *     be refused with CARD_DAMAGED_RECORD, and card_salvage makes it fit again. A
- *     host that changes the rows itself, with card_rows too, has to set the number
- *     of lit spots in the image as well, or that is false from then on.
+ *     be refused with CARD_DAMAGED_RECORD, and card_salvage makes it fit again.
+ *     Both are listed below, beside the image and the record. A host that changes
+ *     the rows itself, with card_rows too, has to set the number of lit spots in
+ *     the image as well, or that is false from then on.
  *   - Somebody has written the contents. What is proved speaks of bytes that have
  *     a value, so buffers that are still uninitialised are outside of it. An
  *     accepted card_load writes every byte of image, memory, rows and history,
@@ -151,6 +155,16 @@
  *   card_forward(image, sizeof image, memory, sizeof memory, rows, CARD_ROWS,
  *                history, sizeof history);
  *   (image[CARD_AT_V] is 5 once more)
+ *
+ * A frame of a game, sixty times a second, with the memory, rows, history and so
+ * on as above: one tick, then ten steps.
+ *
+ *   const uint8_t ticks[10] = {1};                   (before the first step alone)
+ *   uint16_t keys[10];                               (bit k while key k is down)
+ *   uint8_t randoms[10];                             (for CXKK, by the host)
+ *   card_run(image, sizeof image, memory, sizeof memory, rows, CARD_ROWS,
+ *            history, sizeof history, ticks, 10, keys, 10, randoms, 10,
+ *            answer, CARD_ANSWER);
  *
  * THE BUTTON
  *
@@ -258,6 +272,30 @@ enum card_refusal {
  * that nothing was done.
  */
 
+/*
+ * A refusal number in words, for a person: what a message can say after "refused:".
+ * A number that there is not gives words too, and never a null pointer.
+ */
+static inline const char *card_refusal_words(uint32_t refusal) {
+    static const char *const words[] = {
+        "nothing is refused",
+        "PC is past the end of memory",
+        "the edition has no such instruction",
+        "a call into machine language, which the card does not make",
+        "a call with the stack full",
+        "a return with the stack empty",
+        "I and the bytes needed pass the end of memory",
+        "nothing is kept to go back to",
+        "a program of no bytes, or too long a one",
+        "a buffer or a list has a wrong length",
+        "a state that cannot be, or a false number of lit spots",
+        "the record is damaged",
+        "nothing is ahead to go forward to",
+    };
+    const uint32_t last = sizeof words / sizeof *words - 1;
+    return refusal <= last ? words[refusal] : "no refusal number";
+}
+
 /* ---- The image ---------------------------------------------------------- */
 
 /* Where each part stands. Numbers of two bytes have the high byte first. */
@@ -278,6 +316,19 @@ enum card_refusal {
 #define CARD_AT_END 58     /* two bytes: where memory ends, one of the two below */
 
 #define CARD_NO_KEY 0xFF
+
+/*
+ * A state that cannot be, which is CARD_UNSOUND in every call that takes one:
+ *   - a depth above 12, or an entry of the stack at or above depth that is not 0;
+ *   - a held key above 15 that is not CARD_NO_KEY;
+ *   - an edition or an end that is neither of the two, or a byte for later use that
+ *     is not 0;
+ *   - a number of lit spots above 2,048;
+ *   - a next that is not below the places of the history, or kept and ahead that
+ *     are more together than those places. card_page and card_plain are lent no
+ *     history, and do not look at the three.
+ * V, I, PC, the timers and the return addresses may be anything.
+ */
 
 /*
  * The editions of the instruction set. The second has four operations more, with
@@ -301,9 +352,10 @@ enum card_refusal {
 /*
  * Place k of a history begins at CARD_PLACE * k. The newest record stands in the
  * place before next, the last place being before 0; kept of them, going round,
- * can be taken back. A record has what stood before its action, and then what the
- * action was given. A dock may read it, to show the past; card_back and
- * card_forward need no help. Numbers of two bytes have the high byte first.
+ * can be taken back. Those ahead stand from next on. A record has what stood
+ * before its action, and then what the action was given. A dock may read it, to
+ * show the past; card_back and card_forward need no help. Numbers of two bytes
+ * have the high byte first.
  */
 #define CARD_RECORD_AT_MARK 0     /* NO, ME or DI: what changed beside the state */
 #define CARD_RECORD_AT_V 2        /* V0 to VF, a byte each */
@@ -322,6 +374,19 @@ enum card_refusal {
 #define CARD_RECORD_AT_RANDOM 290 /* the random byte of a step; 0 of a tick */
 #define CARD_RECORD_AT_KIND 291   /* 1 for a step, 0 for a tick */
 
+/*
+ * A damaged record, onto which a back is CARD_DAMAGED_RECORD:
+ *   - a mark that is none of the three;
+ *   - NO with a start or a count that is not 0;
+ *   - ME with a count of 0 or above 16, or that reaches past the end of memory;
+ *   - DI with a count of 0 or above 256, or that reaches past byte 256;
+ *   - a depth above 12, or more than one away from the present depth;
+ *   - a depth of 0 with a return address that is not 0;
+ *   - a held key above 15 that is not CARD_NO_KEY;
+ *   - a kind that is neither 0 nor 1.
+ * Every other record is sound. A forward looks at the kind alone.
+ */
+
 /* ---- The answer of a step and of a run ---------------------------------- */
 
 /*
@@ -330,7 +395,7 @@ enum card_refusal {
  */
 #define CARD_ACCEPTED 0  /* how many steps were accepted */
 #define CARD_WENT_DARK 1 /* how many lit spots their drawings darkened */
-#define CARD_COPIED 2    /* of a run: how many bytes its records keep */
+#define CARD_COPIED 2    /* of a run: how many bytes its records keep; else 0 */
 
 /* ---- The answer and the list of a salvage ------------------------------- */
 
@@ -340,8 +405,8 @@ enum card_refusal {
 
 /* The second number of an entry of the list: as what the place had counted. */
 enum card_standing {
-    CARD_WAS_KEPT = 0,  /* a record that card_back could reach */
-    CARD_WAS_AHEAD = 1, /* a record that card_forward could reach */
+    CARD_WAS_KEPT = 0,  /* one of the kept actions, before next */
+    CARD_WAS_AHEAD = 1, /* one of those ahead, from next on */
     CARD_WAS_FREE = 2   /* neither */
 };
 

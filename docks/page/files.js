@@ -1,14 +1,11 @@
 // Files in and out: by the button, dropped on the page, and saved; and the question whether a worn history is to be salvaged.
 
-import { salvageInWords } from "../dock.js";
+import { READ_MOST, salvageInWords } from "../dock.js";
 import { add, find } from "./elements.js";
 
-/** What the largest file that could be meant has, generously. No more than that is read of one that was dropped by mistake. */
-const READ_MOST = 100_000;
-
 export class Files {
-    constructor(dock, dialog, load, redraw) {
-        Object.assign(this, { dock, dialog, load, redraw });
+    constructor(page, dialog) {
+        Object.assign(this, { page, dialog, dock: page.dock });
         addEventListener("dragover", (event) => event.preventDefault());
         addEventListener("drop", (event) => {
             event.preventDefault();
@@ -16,11 +13,11 @@ export class Files {
         });
     }
 
-    /** Reads a file of the person's and opens what it holds. */
+    /** Reads a file of the person's and opens what it holds. One may be dropped by mistake, so not all of a large one is read. */
     async take(file) {
         if (!file) return this.cannot("What was dropped", "it is no file");
         try {
-            this.open(file.name, new Uint8Array(await file.slice(0, READ_MOST).arrayBuffer()));
+            this.open(file.name, new Uint8Array(await file.slice(0, READ_MOST + 1).arrayBuffer()));
         } catch {
             this.cannot(file.name, "it cannot be read");
         }
@@ -28,28 +25,28 @@ export class Files {
 
     cannot(name, why) {
         this.dock.refuseFile(name, why);
-        this.redraw();
+        this.page.draw();
     }
 
     async open(name, bytes) {
         try {
             const { program, parts, salvage } = this.dock.look(bytes);
-            if (program) return this.load(name, program);
+            if (program) return this.page.load(name, program);
             const wish = salvage ? await this.ask(name, salvage) : "as it is";
             if (wish === "leave" || wish === "") return this.cannot(name, "you left it");
-            this.dock.open(name, parts);
+            this.page.open(name, parts);
             if (wish === "salvage") this.dock.salvage();
         } catch (error) {
             return this.cannot(name, error.message);
         }
-        this.redraw();
+        this.page.draw();
     }
 
     /** The history of the machine that is open turned out to be damaged. */
     async offer() {
         const wish = await this.ask(this.dock.name, this.dock.salvageOffer, true);
         if (wish === "salvage") this.dock.salvage();
-        this.redraw();
+        this.page.draw();
     }
 
     /** Asks in the dialog. It gives "salvage", "as it is", "leave", or "" where it was closed otherwise. */
@@ -72,6 +69,6 @@ export class Files {
         link.click();
         setTimeout(() => URL.revokeObjectURL(link.href), 1000);
         this.dock.say(`The card was saved as ${link.download}.`);
-        this.redraw();
+        this.page.draw();
     }
 }

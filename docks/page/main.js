@@ -1,8 +1,8 @@
 // The page: puts the machine, the panels and the buttons together.
 
 import { Card } from "../machine.js";
-import { Dock, EDITIONS, Pace } from "../dock.js";
-import { hex } from "../words.js";
+import { Dock, Pace } from "../dock.js";
+import { addressIn, EDITIONS, hex } from "../words.js";
 import { add, find } from "./elements.js";
 import { Files } from "./files.js";
 import { Glass } from "./picture.js";
@@ -15,8 +15,9 @@ const SPEEDS = [1, 3, 10, 30, 100, 300, 1000];
 
 const bytesOf = (base64) => Uint8Array.from(atob(base64), (letter) => letter.charCodeAt(0));
 
-/** What is inside the page: the module, and the programs of our own. */
+/** What is inside the page beside the module: the programs, and how they are to be loaded. */
 const PROGRAMS = JSON.parse(find("programs").textContent);
+const CHOSEN = JSON.parse(find("chosen").textContent);
 
 class Page {
     constructor(card) {
@@ -28,11 +29,11 @@ class Page {
         this.keys = new Keys(find("pad"), find("latch"));
         this.tone = new Tone(find("sound"));
         this.timeline = new Timeline(find("timeline"), (kept) => this.make(() => this.dock.seek(kept)));
-        this.files = new Files(this.dock, find("salvage"), (name, program) => this.load(name, program), () => this.draw());
+        this.files = new Files(this, find("salvage"));
         this.fillLists();
         this.listenToButtons();
         this.listenToKeyboard();
-        this.loadOwn(Object.keys(PROGRAMS)[0]);
+        this.loadListed(Object.keys(PROGRAMS)[0]);
     }
 
     fillLists() {
@@ -42,6 +43,7 @@ class Page {
         file.value = "";
         for (const steps of SPEEDS) add(find("speed"), "option", "", steps.toLocaleString("en")).value = steps;
         find("speed").value = this.dock.stepsAFrame;
+        this.choose(CHOSEN);
     }
 
     // ---- what a person asks for
@@ -51,7 +53,11 @@ class Page {
         return [Number(find("edition").value), Number(find("end").value)];
     }
 
-    loadOwn(name) {
+    choose(choices) {
+        for (const [id, value] of Object.entries(choices)) find(id).value = value;
+    }
+
+    loadListed(name) {
         this.load(name, bytesOf(PROGRAMS[name].bytes));
         find("program").value = name;
     }
@@ -59,6 +65,13 @@ class Page {
     load(name, program) {
         if (this.dock.load(name, program, ...this.chosen)) find("program").value = name in PROGRAMS ? name : "";
         this.draw();
+    }
+
+    /** Takes the machine out of a card's file. The lists say then what that machine is. */
+    open(name, parts) {
+        this.dock.open(name, parts);
+        const { edition, end } = this.dock.machine;
+        this.choose({ program: "", edition, end });
     }
 
     /** Does something to the machine and shows what came of it. */
@@ -84,11 +97,18 @@ class Page {
         this.draw();
     }
 
-    /** What was typed as an address, in hex; nothing where it is none. */
-    typed(field) {
-        const isAddress = /^[0-9a-f]{1,4}$/i.test(field.value.trim());
-        field.classList.toggle("wrong", field.value.trim() !== "" && !isAddress);
-        return isAddress ? parseInt(field.value, 16) : undefined;
+    typeBreak(typed) {
+        this.dock.typeBreak(typed);
+        this.breakAt(this.dock.breakAt);
+    }
+
+    /** Follows the address that is being typed. What is none is marked at once, and said when it stays so. */
+    follow(text, isTyped) {
+        document.querySelector('[name=follow][value="own"]').checked = true;
+        const isWrong = text !== "" && addressIn(text) === undefined;
+        find("at").classList.toggle("wrong", isWrong);
+        if (isWrong && isTyped) this.dock.say(`${text} is no address in hex.`);
+        this.draw();
     }
 
     // ---- the run
@@ -111,7 +131,7 @@ class Page {
         on("step", "click", () => this.step());
         on("tick", "click", () => this.make(() => dock.tick()));
         on("run", "click", () => this.runOrPause());
-        on("again", "click", () => dock.program && this.load(dock.name, dock.program));
+        on("again", "click", () => (dock.hasProgram() ? this.load(dock.name, dock.program) : this.draw()));
         on("save", "click", () => this.files.save());
         on("offer", "click", () => this.files.offer());
         on("open", "click", () => find("file").click());
@@ -120,7 +140,7 @@ class Page {
             target.value = "";
         });
         on("help", "click", () => find("keys-help").showModal());
-        on("program", "change", ({ target }) => this.loadOwn(target.value));
+        on("program", "change", ({ target }) => this.loadListed(target.value));
         on("edition", "change", ({ target }) =>
             this.make(() => dock.say(`The ${EDITIONS[target.value]} edition counts from the next load on.`)),
         );
@@ -129,8 +149,9 @@ class Page {
         );
         on("speed", "change", ({ target }) => (dock.stepsAFrame = Number(target.value)));
         on("variables", "change", () => this.draw());
-        on("break", "input", ({ target }) => this.make(() => (dock.breakAt = this.typed(target))));
-        on("at", "input", () => this.make(() => (document.querySelector('[name=follow][value="own"]').checked = true)));
+        on("break", "change", ({ target }) => this.typeBreak(target.value));
+        on("at", "input", ({ target }) => this.follow(target.value.trim(), false));
+        on("at", "change", ({ target }) => this.follow(target.value.trim(), true));
         for (const choice of document.querySelectorAll("[name=follow]")) choice.addEventListener("change", () => this.draw());
         // A button that was pressed with a pointer gives the keyboard back to the dock.
         addEventListener("click", ({ target, detail }) => detail > 0 && target.closest("button, select, .check")?.blur?.());
@@ -150,6 +171,11 @@ class Page {
                 ArrowRight: () => this.make(() => dock.forward()),
                 Home: () => this.make(() => dock.seek(0)),
                 End: () => this.make(() => dock.seek(dock.machine.kept + dock.machine.ahead)),
+            }),
+            // The timeline by itself would go by tenths, and PageUp forward.
+            ...(!target.closest("select") && {
+                PageUp: () => this.make(() => dock.backFrame()),
+                PageDown: () => this.make(() => dock.forwardFrame()),
             }),
             t: () => this.make(() => dock.tick()),
             b: () => find("break").select(),
@@ -184,7 +210,7 @@ class Page {
     get followed() {
         const { machine } = this.dock;
         const { value } = document.querySelector("[name=follow]:checked");
-        return { pc: machine.pc, i: machine.i, own: this.typed(find("at")) ?? 0 }[value];
+        return { pc: machine.pc, i: machine.i, own: addressIn(find("at").value.trim()) ?? 0 }[value];
     }
 
     draw() {
@@ -199,7 +225,6 @@ class Page {
         this.timeline.draw(machine);
         this.tone.sound(running && machine.tone > 0);
         find("run").textContent = running ? "Pause" : "Run";
-        find("again").disabled = dock.program === undefined;
         find("said").textContent = said.text;
         find("said").classList.toggle("refused", said.refused);
         find("offer").hidden = !dock.isDamaged;

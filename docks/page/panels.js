@@ -2,7 +2,7 @@
 // then only written where something is new. What the last action changed is marked.
 
 import { NO_KEY } from "../machine.js";
-import { digitsAt, hex, instruction } from "../words.js";
+import { digitsAt, EDITIONS, hex, instruction } from "../words.js";
 import { add } from "./elements.js";
 
 /** Writes a text and marks it, but only where that is new: most of a page stays the same from frame to frame. */
@@ -21,6 +21,8 @@ const REGISTERS = [
     ["Tone", (machine) => hex(machine.tone, 2)],
     ["Held key", (machine) => keyOf(machine.held)],
     ["Lit spots", (machine) => `${machine.lit}`],
+    ["Edition", (machine) => EDITIONS[machine.edition]],
+    ["Memory end", (machine) => hex(machine.end, 4)],
 ];
 const VARIABLES = Array.from({ length: 16 }, (_, x) => [`V${hex(x, 1)}`, (machine) => hex(machine.v[x], 2)]);
 const STACK = Array.from({ length: 12 }, (_, entry) => [

@@ -2,18 +2,20 @@
 // as down for some frames after each press, and while it stands a press holds the key and the next one lets it go.
 
 const LETTERS = "x123qweasdzc4rfv";
+/** The letters as they lie on the keyboard, row by row. */
+export const ROWS = ["1234", "qwer", "asdf", "zxcv"];
 const FRAMES = 12;
+
+/** The key of the card that this letter is, if any: key k is the letter at place k. */
+export function keyOf(letter) {
+    const key = letter?.length === 1 ? LETTERS.indexOf(letter.toLowerCase()) : -1;
+    return key < 0 ? undefined : key;
+}
 
 export class TerminalKeys {
     constructor() {
         /** For each key that is down, how many frames it stays so. */
         this.left = new Map();
-    }
-
-    /** The key of the card that this letter is, if any: key k is the letter at place k. */
-    keyOf(letter) {
-        const key = letter?.length === 1 ? LETTERS.indexOf(letter.toLowerCase()) : -1;
-        return key < 0 ? undefined : key;
     }
 
     press(key, running) {

@@ -7,32 +7,45 @@ import { basename } from "node:path";
 import { emitKeypressEvents } from "node:readline";
 import { Card } from "../machine.js";
 import { Dock, Pace, salvageInWords } from "../dock.js";
-import { TerminalKeys } from "./keys.js";
+import { read } from "../read.js";
+import { counted, hex } from "../words.js";
+import { keyOf, ROWS, TerminalKeys } from "./keys.js";
 import { COLUMNS, LINES, screen, STYLES, wrap } from "./screen.js";
+
+/** The rows of the keyboard beside each other, each letter as it is to be shown. */
+const pad = (show) => ROWS.map((row) => [...row].map(show).join(" ")).join("   ");
 
 const HELP = `
   Space        run, or pause
   Enter        step, with the keys that are down
   ← →          back; forward, which makes it again as it was
+  PgUp PgDn    the same by whole frames: the steps and their tick
   Home End     to the start, to the end of the timeline
   T            a tick of the clock; a run makes 60 a second
   B            a break at an address
   + -          more or fewer steps a frame
   P            the page of variables on the glass
-  L            load the program again
+  L            load the program again from its file
   K            keep: save the whole machine as a card's file
   O            open a program or a card's file
   Ctrl-C       quit
+  Keyboard     ${pad((letter) => letter.toUpperCase())}
+  Card's key   ${pad((letter) => hex(keyOf(letter), 1))}
+  While it stands, a press holds a key and the next frees it.`.split("\n").slice(1);
 
-  The card's keys are 1234, QWER, ASDF and ZXCV. While the
-  program stands, a press holds a key, and the next frees it.`.split("\n").slice(1);
-
-/** Why a file cannot be read, by the system's word for it. */
-const WHY = { ENOENT: "there is no such file", EISDIR: "it is a folder", EACCES: "it cannot be read" };
+/** Why a file cannot be written, by the system's word for it. */
+const WHY = {
+    ENOENT: "there is no such folder",
+    ENOTDIR: "there is no such folder",
+    EISDIR: "it is a folder",
+    EACCES: "it may not be written there",
+    EROFS: "it may not be written there",
+    ENOSPC: "there is no room for it",
+};
 
 const SPEEDS = [1, 3, 10, 30, 100, 300, 1000];
-/** More than the largest file that could be meant; no more of it is looked at. */
-const READ_MOST = 100_000;
+/** Ctrl-C, and Ctrl-Q beside it: they cancel what is being typed, and else they quit. */
+const isStop = (key) => key.ctrl && (key.name === "c" || key.name === "q");
 
 class Terminal {
     constructor(card, edition, end) {
@@ -48,18 +61,28 @@ class Terminal {
     /** Opens a file, or asks first, or says why not. */
     open(name) {
         try {
-            const { program, parts, salvage } = this.dock.look(readFileSync(name).subarray(0, READ_MOST));
-            if (program) this.dock.load(basename(name), program, ...this.chosen);
+            const { program, parts, salvage } = this.dock.look(read(name));
+            if (program) this.load(name, program);
             else if (salvage) this.askBefore(name, parts, salvage);
             else this.dock.open(basename(name), parts);
         } catch (error) {
-            this.dock.refuseFile(name, WHY[error.code] ?? error.message);
+            this.dock.refuseFile(name, error.message);
         }
+    }
+
+    load(name, program) {
+        if (this.dock.load(basename(name), program, ...this.chosen)) this.loaded = name;
+    }
+
+    /** Loads the program again, as its file is now. */
+    loadAgain() {
+        if (this.dock.hasProgram()) this.open(this.loaded);
     }
 
     /** Asks whether the worn history of a file is to be salvaged, before anything is changed. */
     askBefore(name, parts, salvage) {
-        this.ask(salvage, ["S  salvage it: the file changes only where you save it", "A  open it as it is"], (key) => {
+        this.dock.say("");
+        this.ask(basename(name), salvage, ["S  salvage it: the file changes only where you save it", "A  open it as it is"], (key) => {
             if (key !== "s" && key !== "a") {
                 this.dock.refuseFile(name, "you left it");
                 // Where nothing was open before, there is nothing to go on with.
@@ -72,23 +95,29 @@ class Terminal {
 
     /** Asks the same of the machine that is open, where a record turned out to be damaged. */
     askNow() {
-        this.ask(this.dock.salvageOffer, ["S  salvage it"], (key) => key === "s" && this.dock.salvage());
+        this.ask(this.dock.name, this.dock.salvageOffer, ["S  salvage it"], (key) => key === "s" && this.dock.salvage());
     }
 
-    ask(salvage, choices, answer) {
-        const lines = salvageInWords(salvage).flatMap((line) => wrap(line, 62));
-        this.view.text = ["The history is worn.", "", ...lines, "", ...choices, "Any other key leaves it."];
+    ask(name, salvage, choices, answer) {
+        const lines = [`The history of ${name} is worn.`, "", ...salvageInWords(salvage)].flatMap((line) => wrap(line, 62));
+        this.view.text = [...lines, "", ...choices, "Any other key leaves it."];
         this.answer = answer;
     }
 
-    save(name) {
+    /** Saves the machine. A file that stands there already is written over only when asked. */
+    save(name, flag = "wx") {
         try {
-            // A file that stands there already is not written over.
-            writeFileSync(name, this.dock.save(), { flag: "wx" });
+            writeFileSync(name, this.dock.save(), { flag });
             this.dock.say(`The card was saved as ${name}.`);
         } catch (error) {
-            this.dock.say(`The card was not saved: ${error.code === "EEXIST" ? `${name} is there already` : error.message}.`);
+            if (error.code === "EEXIST") this.askToWriteOver(name);
+            else this.dock.say(`The card was not saved as ${name}: ${WHY[error.code] ?? error.message}.`);
         }
+    }
+
+    askToWriteOver(name) {
+        this.dock.say(`The card was not saved: ${name} is there already.`);
+        this.type(`${name} is there already; y writes over it`, (text) => text.toLowerCase() === "y" && this.save(name, "w"));
     }
 
     // ---- what a key does
@@ -101,16 +130,18 @@ class Terminal {
             return: () => dock.step(this.keys.bits),
             left: () => dock.back(),
             right: () => dock.forward(),
+            pageup: () => dock.backFrame(),
+            pagedown: () => dock.forwardFrame(),
             home: () => dock.seek(0),
             end: () => dock.seek(machine.kept + machine.ahead),
             t: () => dock.tick(),
-            b: () => this.type("Break at (in hex; nothing for none): ", (text) => this.breakAt(text)),
+            b: () => this.type("Break at, in hex, or nothing for none", (text) => dock.typeBreak(text)),
             "+": () => this.faster(1),
             "-": () => this.faster(-1),
             p: () => (this.view.variables = !this.view.variables),
-            l: () => dock.program && dock.load(dock.name, dock.program, ...this.chosen),
-            k: () => this.type("Save the card as: ", (name) => name && this.save(name)),
-            o: () => this.type("Open: ", (name) => name && this.open(name)),
+            l: () => this.loadAgain(),
+            k: () => this.type("Save the card as", (name) => name && this.save(name)),
+            o: () => this.type("Open", (name) => name && this.open(name)),
             y: () => dock.isDamaged && this.askNow(),
             "?": () => this.show(HELP),
         };
@@ -123,15 +154,10 @@ class Terminal {
         this.answer = () => {};
     }
 
-    breakAt(text) {
-        if (text !== "" && !/^[0-9a-f]{1,4}$/i.test(text)) return this.dock.say(`${text} is no address.`);
-        this.dock.breakAt = text === "" ? undefined : parseInt(text, 16);
-    }
-
     faster(by) {
         const at = SPEEDS.indexOf(this.dock.stepsAFrame) + by;
         this.dock.stepsAFrame = SPEEDS[Math.max(0, Math.min(at, SPEEDS.length - 1))];
-        this.dock.say(`${this.dock.stepsAFrame} steps a frame.`);
+        this.dock.say(`${counted(this.dock.stepsAFrame, "step")} a frame.`);
     }
 
     runOrPause() {
@@ -159,20 +185,20 @@ class Terminal {
         if (key.name === "return") {
             this.typed = undefined;
             typed.done(typed.text.trim());
-        } else if (key.name === "escape") this.typed = undefined;
+        } else if (key.name === "escape" || isStop(key)) this.typed = undefined;
         else if (key.name === "backspace") typed.text = typed.text.slice(0, -1);
         else if (letter >= " ") typed.text += letter;
     }
 
     press(letter, key) {
-        if (key.ctrl && (key.name === "c" || key.name === "q")) return leave();
         if (this.typed) this.typeOn(letter, key);
+        else if (isStop(key)) leave();
         else if (this.answer) {
             const { answer } = this;
             this.answer = this.view.text = undefined;
             answer(letter?.toLowerCase());
         } else {
-            const pressed = this.keys.keyOf(letter);
+            const pressed = keyOf(letter);
             if (pressed !== undefined) this.keys.press(pressed, this.dock.running);
             else (this.commands[key.name] ?? this.commands[letter])?.();
         }
@@ -184,7 +210,7 @@ class Terminal {
     draw() {
         const { columns, rows } = process.stdout;
         this.view.down = this.keys.down;
-        this.view.typing = this.typed && `${this.typed.question}${this.typed.text}▏`;
+        this.view.typing = this.typed && `${this.typed.question} (Escape cancels): ${this.typed.text}▏`;
         const tooSmall =
             `The dock needs ${COLUMNS} columns and ${LINES} lines; this terminal has ${columns} and ${rows}. ` +
             "Make it larger, or press Ctrl-C.";

@@ -2,7 +2,7 @@
 // the instruction, the memory at PC and at I, and what is said. It is made of lines and touches nothing.
 
 import { NO_KEY } from "../machine.js";
-import { hex } from "../words.js";
+import { counted, EDITIONS, hex } from "../words.js";
 
 export const COLUMNS = 80;
 export const LINES = 24;
@@ -25,13 +25,13 @@ function glass(panel) {
     );
 }
 
-/** The registers, a line each, with what the last action changed set off. */
+/** The registers, a line each, with what the last action changed set off; and the edition, and where memory ends. */
 function registers(dock, now, before, style) {
     const value = (read) => (read(now) === read(before) ? read(now) : style.changed(read(now)));
     const v = (x) => `V${hex(x, 1)} ${value((machine) => hex(machine.v[x], 2))}`;
     return [
         ...Array.from({ length: 8 }, (_, x) => ` ${v(x)}   ${v(x + 8)}`),
-        "",
+        style.soft(` ${EDITIONS[now.edition]}, to ${hex(now.end, 4)}`),
         ` PC     ${value((machine) => hex(machine.pc, 4))}`,
         ` I      ${value((machine) => hex(machine.i, 4))}`,
         ` Delay    ${value((machine) => hex(machine.delay, 2))}`,
@@ -95,9 +95,11 @@ export function screen(dock, view, height = LINES) {
     const beside = registers(dock, now, before, style);
     const more = Math.max(0, Math.min(7, (height - LINES) >> 1));
     const { digits, does } = dock.instruction;
-    const said = wrap(view.typing ?? dock.said.text).slice(0, 2);
+    const said = wrap(view.typing ?? dock.said.text).slice(0, 3);
+    const hints = style.soft(dock.isDamaged ? "Y  salvage the history" : HINTS);
+    const spoken = dock.said.refused && !view.typing ? style.refused : (line) => line;
     const keys = view.down.map((key) => hex(key, 1)).join(" ");
-    const doing = running ? `${dock.stepsAFrame} steps a frame` : keys && `down: ${keys}`;
+    const doing = running ? `${counted(dock.stepsAFrame, "step")} a frame` : keys && `down: ${keys}`;
     return [
         ...picture.map((line, n) => line + beside[n]),
         timeline(now, style),
@@ -105,7 +107,8 @@ export function screen(dock, view, height = LINES) {
         `${style.here(`${hex(now.pc, 4)} ${digits}`)}  ${does.padEnd(50)}${doing}`,
         ...memory("PC", now.pc, 1 + more, now, before, style),
         ...memory("I", now.i, 1 + more, now, before, style),
-        ...[said[0], said[1] ?? ""].map((line) => (dock.said.refused && !view.typing ? style.refused(line) : line)),
-        style.soft(dock.isDamaged ? "Y  salvage the history" : HINTS),
+        ...[said[0], said[1] ?? ""].map(spoken),
+        // Three lines of words stand in the place of the hints.
+        said[2] ? spoken(said[2]) : hints,
     ];
 }

@@ -3,11 +3,12 @@
 //   node browser.js DOCK.HTML FOLDER     pictures of the page are left in FOLDER
 
 import assert from "node:assert/strict";
+import { spawnSync } from "node:child_process";
 import { mkdtempSync, readFileSync, rmSync, writeFileSync } from "node:fs";
 import { tmpdir } from "node:os";
-import { join } from "node:path";
+import { dirname, join } from "node:path";
 import { setTimeout as wait } from "node:timers/promises";
-import { pathToFileURL } from "node:url";
+import { fileURLToPath, pathToFileURL } from "node:url";
 import { PLACE } from "../machine.js";
 import { Browser } from "./driver.js";
 
@@ -15,6 +16,7 @@ const [html, folder] = process.argv.slice(2);
 const url = pathToFileURL(html).href;
 const own = (name) => new URL(`../../programs/${name}`, import.meta.url).pathname;
 const [ENTER, LEFT, RIGHT, HOME, END, ESCAPE] = ["\uE007", "\uE012", "\uE014", "\uE011", "\uE010", "\uE00C"];
+const [PAGE_UP, PAGE_DOWN] = ["\uE00E", "\uE00F"];
 const HISTORY_AT = 8 + 64 + 4096 + 256;
 
 const temporary = mkdtempSync(join(tmpdir(), "dock-"));
@@ -108,6 +110,11 @@ const TESTS = {
         assert.notEqual(await shown(browser), before);
         await browser.keys(...Array(10).fill(RIGHT));
         assert.equal(await shown(browser), before);
+        // A frame is a tick and ten steps.
+        await browser.keys(PAGE_UP, PAGE_UP, PAGE_UP);
+        assert.deepEqual([await kept(browser), await ahead(browser)], [191, 33]);
+        await browser.keys(PAGE_DOWN);
+        assert.deepEqual([await kept(browser), await ahead(browser)], [202, 22]);
         await browser.keys(HOME);
         assert.equal(await kept(browser), 0);
         await browser.keys(END, " ");
@@ -126,12 +133,25 @@ const TESTS = {
     },
 
     async "a break is set, reached and gone on from"(browser) {
-        await browser.run(() => page.loadOwn("digits.ch8"));
+        await browser.run(() => page.loadListed("digits.ch8"));
         await browser.type("#break", `20E${ENTER}`);
         await browser.click("#run");
         await until("the break", async () => (await said(browser)) === "The break at 020E is reached.");
         assert.equal(await cell(browser, "PC"), "020E");
-        await browser.run(() => page.breakAt(undefined));
+        await browser.type("#break", `xy${ENTER}`);
+        assert.equal(await said(browser), "020Exy is no address in hex. The break stays as it was.");
+        assert.equal(await browser.run(() => document.getElementById("break").value), "020E");
+        await browser.run(() => (document.getElementById("break").value = ""));
+        await browser.type("#break", `0x210${ENTER}`);
+        assert.deepEqual([await browser.run(() => page.dock.breakAt), await said(browser)], [0x210, ""]);
+        await browser.type("#at", `x${ENTER}`);
+        assert.equal(await said(browser), "0200x is no address in hex.");
+        await browser.run(() => {
+            document.getElementById("at").value = "0200";
+            page.follow("0200", true);
+            document.querySelector('[name=follow][value="pc"]').click();
+            page.breakAt(undefined);
+        });
     },
 
     async "the 2K profile and the first edition are chosen for the next load"(browser) {
@@ -149,18 +169,30 @@ const TESTS = {
         await choose("edition", "0");
         await browser.click("#again");
         assert.match(await said(browser), /is loaded, for the first edition and the 2K profile\.$/);
+        assert.deepEqual([await cell(browser, "Edition"), await cell(browser, "Memory end")], ["first", "06A0"]);
+        await browser.run(() => (window.small = page.dock.save()));
         await choose("end", "4096");
         await choose("edition", "1");
         await browser.click("#again");
         assert.match(await said(browser), /is loaded, for the second edition\.$/);
+        assert.deepEqual([await cell(browser, "Edition"), await cell(browser, "Memory end")], ["second", "1000"]);
+        await browser.run(() => page.files.open("small.card", window.small));
+        assert.deepEqual(await browser.run(() => page.chosen), [0, 1696]);
+        assert.deepEqual([await cell(browser, "Edition"), await cell(browser, "Memory end")], ["first", "06A0"]);
+        await choose("end", "4096");
+        await choose("edition", "1");
     },
 
     async "a refusal is said, and can be stepped back from"(browser) {
-        await browser.run(() => page.loadOwn("again.ch8"));
+        await browser.run(() => page.loadListed("again.ch8"));
         await browser.click("#run");
         await until("refused", async () => (await said(browser)).includes("refused with 3"));
-        assert.match(await said(browser), /^Step: refused with 3, a call into machine language.*\(00FD at 0218\)\. Nothing was changed\.$/);
+        assert.match(await said(browser), /^Step: refused with 3, a call into machine.*\(00FD at 0218\)\. This step changed nothing;/);
         const before = await shown(browser);
+        const past = [await kept(browser), await ahead(browser)];
+        await browser.click("#run");
+        await until("refused at once", async () => (await said(browser)).endsWith("(00FD at 0218). Nothing was changed."));
+        assert.deepEqual([await kept(browser), await ahead(browser)], past);
         await browser.click("#back");
         assert.notEqual(await shown(browser), before);
         assert.equal(await said(browser), "");
@@ -193,13 +225,14 @@ const TESTS = {
             await until(name, async () => (await said(browser)).startsWith(`Load ${name}: refused with 8`));
             assert.equal(await shown(browser), before);
         }
+        assert.match(await said(browser), /, and the file has more than 100,000 bytes\./);
         await browser.type("#file", file("cut.card", "HAOCARD1 and no more"));
         await until("cut", async () => /^cut.card was not opened: it ends too early/.test(await said(browser)));
         assert.equal(await shown(browser), before);
     },
 
     async "a card is saved and opened again with its past; a worn one is salvaged when asked"(browser) {
-        await browser.run(() => page.loadOwn("night.ch8"));
+        await browser.run(() => page.loadListed("night.ch8"));
         await browser.keys(...Array(30).fill(ENTER));
         await browser.click("#save");
         const saved = join(temporary, "night.card");
@@ -211,19 +244,23 @@ const TESTS = {
             return bytes?.length > HISTORY_AT;
         });
         const before = await shown(browser);
-        await browser.run(() => page.loadOwn("mover.ch8"));
+        await browser.run(() => page.loadListed("mover.ch8"));
         await browser.type("#file", saved);
         await until("open", async () => (await said(browser)).startsWith("night.card is open, with 30 actions kept"));
+        assert.equal(await shown(browser), before);
+        assert.match(await browser.run(() => document.getElementById("again").title), /as it was when its file was opened/);
+        await browser.click("#again");
+        assert.match(await said(browser), /^There is no program to load again: night.card is a card's file/);
         assert.equal(await shown(browser), before);
 
         const worn = Buffer.from(bytes);
         worn[HISTORY_AT + 19 * PLACE] ^= 1;
         await browser.type("#file", file("worn.card", worn));
         await until("the question", () => browser.run(() => document.getElementById("salvage").open));
-        assert.match(await browser.text("#salvage-lines"), /Of 30 kept records the newest 10 are sound/);
+        assert.match(await browser.text("#salvage-lines"), /Of 30 kept records the newest 10 would stay/);
         assert.equal(await kept(browser), 30);
         await browser.click('#salvage [value="salvage"]');
-        await until("salvaged", async () => (await said(browser)) === "Salvaged: 10 records are kept.");
+        await until("salvaged", async () => (await said(browser)) === "Salvaged, with 10 records kept.");
         assert.equal(await kept(browser), 10);
         await browser.keys(HOME);
         assert.deepEqual([await kept(browser), await ahead(browser)], [0, 10]);
@@ -232,13 +269,14 @@ const TESTS = {
     async "help opens and closes"(browser) {
         await browser.keys("?");
         assert.ok(await browser.run(() => document.getElementById("keys-help").open));
+        assert.match(await browser.text("#keys-help"), /PageUp, PageDown .*whole frames/);
         await browser.keys(ESCAPE);
         await until("closed", () => browser.run(() => !document.getElementById("keys-help").open));
     },
 
     async "a run at 1,000 steps a frame leaves most of a frame's time"(browser) {
         await browser.run(() => {
-            page.loadOwn("squash.ch8");
+            page.loadListed("squash.ch8");
             page.dock.stepsAFrame = 1000;
             window.times = [];
             const frame = page.frame;
@@ -255,6 +293,27 @@ const TESTS = {
         const [middle, most] = [times[times.length >> 1], times[Math.floor(times.length * 0.95)]];
         assert.ok(middle < 8, `a frame takes ${middle} ms`);
         return `${times.length} frames in 3 s, each ${middle.toFixed(1)} ms in the middle and ${most.toFixed(1)} ms for 95 of 100`;
+    },
+
+    async "a page that is made with a program and choices begins with them"(browser) {
+        const make = (...words) => {
+            const made = [join(dirname(html), "card.wasm"), join(temporary, "made.html"), ...words];
+            return spawnSync(process.execPath, [fileURLToPath(new URL("../page/make.js", import.meta.url)), ...made], { encoding: "utf8" });
+        };
+        // It is called as one of our own, and is another.
+        assert.equal(make("0", "1696", file("mover.ch8", Uint8Array.of(0x63, 0x07))).status, 0);
+        await browser.open(pathToFileURL(join(temporary, "made.html")).href);
+        await until("ready", () => browser.run(() => document.body.dataset.ready === "yes"));
+        assert.equal(await said(browser), "mover.ch8 is loaded, for the first edition and the 2K profile.");
+        assert.equal(await browser.run(() => document.getElementById("program").selectedIndex), 0);
+        assert.deepEqual(await browser.run(() => page.chosen), [0, 1696]);
+        await browser.click("#step");
+        assert.equal(await cell(browser, "V3"), "07");
+        for (const [bytes, why] of [["HAOCARD1", /wrong was not opened: it is a card's file/], ["", /^dock: Load wrong: refused with 8/]]) {
+            const { status, stderr } = make("1", "4096", file("wrong", bytes));
+            assert.equal(status, 2);
+            assert.match(stderr, why);
+        }
     },
 };
 

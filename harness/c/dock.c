@@ -507,7 +507,7 @@ static void remember(void) {
 }
 
 static void refused(uint32_t got, uint32_t wanted, const char *what) {
-    printf("refusal %2u: %s\n", (unsigned)got, what);
+    printf("refusal %2u: %s; %s\n", (unsigned)got, what, card_refusal_words(got));
     expect(got == wanted, "another number was expected");
     expect(memcmp(&before, &desk, sizeof desk) == 0,
            "a refused call changed a buffer");

@@ -5,7 +5,7 @@ use std::fmt;
 
 use crate::buffers::{Buffers, Host, Lent, Lists, Part, Told, PARTS};
 use crate::case::{hex, wear, write_bytes, Call, Case};
-use crate::engine::{Engine, Second};
+use crate::engine::{Engine, Second, ACCEPTED};
 use crate::guard::{Guarded, Item};
 use crate::plain::{self, numbered, spots_of};
 use crate::plain_list::PlainList;
@@ -33,6 +33,7 @@ pub fn check(engine: &dyn Engine<u64>, case: &Case, tally: &mut Tally) -> Result
         expected: case.start.clone(),
         got: case.start.each().map(|buffer| Guarded::buffer(buffer)),
         list: PlainList::start(&case.start),
+        answered: Vec::new(),
         lit_is_true: lit_is_true(&case.start),
     };
     for (number, call) in case.calls.iter().enumerate() {
@@ -215,6 +216,8 @@ struct Sides {
     expected: Host,
     got: Buffers<Guarded<u8>>,
     list: Option<PlainList>,
+    /// What the last call answered.
+    answered: Vec<u64>,
     /// Whether the number of lit spots is the picture's.
     lit_is_true: bool,
 }
@@ -277,6 +280,7 @@ impl Sides {
             return Err(format!("refusal: expected {expected}, got {refusal}"));
         }
         compare_answer(&expected_answer, &answer)?;
+        self.answered = expected_answer;
         compare_buffer("list", &expected_list, &list)?;
         for (part, name) in PARTS {
             compare_buffer(name, self.expected.part(*part), self.got.part(*part))?;
@@ -302,6 +306,7 @@ impl Sides {
             let was = Machine::from_image(&before.image);
             let image = numbered(machine, [was.next, was.kept, was.ahead]).to_image();
             let same = plain.refusal == refusal
+                && plain.answer[ACCEPTED] == self.answered[ACCEPTED]
                 && plain.image == image
                 && plain.memory == self.expected.memory
                 && plain.spots == spots_of(&self.expected.picture);

@@ -188,6 +188,24 @@ impl<E: Engine<u64>> Desk<'_, E> {
         assert_eq!((refusal, answer[ACCEPTED]), (0, LIST_MOST as u64));
     }
 
+    /// Goes back over every record that is kept, a call each, and answers how many.
+    pub fn backs(&mut self) -> usize {
+        let mut made = 0;
+        while self.engine.back(self.host.lend()) == 0 {
+            made += 1;
+        }
+        made
+    }
+
+    /// Goes forward over all that is ahead, a call each, and answers how many.
+    pub fn forwards(&mut self) -> usize {
+        let mut made = 0;
+        while self.engine.forward(self.host.lend()) == 0 {
+            made += 1;
+        }
+        made
+    }
+
     pub fn steps(&mut self) {
         let mut answer = [0; ANSWER];
         for entry in 0..LIST_MOST {

@@ -1,55 +1,60 @@
--- The lit spots of some bytes counted one byte after the other; and what replacing bytes of a picture by others does to its number.
+-- The lit spots of bytes counted, some after the other or in one number; and what replacing bytes of a picture by others does to its number.
 use mathlib.Core.Path.{_≡_, refl, sym, ap, ap₂, _∙_}
 use mathlib.Core.List.{List, [], _∷_}
-use Prim.Native.Nat.{ℕ, zero, suc, _+_, _*_, _≤_, _<_}
-use native.Mathlib.Nat.{not-suc-le-zero}
+use Prim.Native.Nat.{ℕ, zero, suc, _+_, _*_, _/_, _%_, _^_, _≤_, _<_}
+use native.Mathlib.Nat.{zero-add, suc-add}
 use native.Mathlib.Omega.{arith}
 use native.Mathlib.Numerals.{add-one}
 use lib.ListN.{length, getD, take, drop}
-use lib.Seq.{getD-take, getD-drop, take-all}
-use lib.Count.{ones, ones-le}
+use lib.Seq.{take-nil, drop-drop}
+use lib.Count.{ones, ones-cat}
 use Rattle.rules.specs.Memory.{part, over}
 use Rattle.rules.specs.Picture.{litSpots}
-use Rattle.rules.specs.Rows.{bytesOf}
+use Rattle.rules.specs.Rows.{bytesOf, joined}
 use Rattle.rules.proofs.Good.{Bytes}
 use Rattle.rules.proofs.Parts.{over-take, over-drop, part-over-same, below-of, bytes-over}
-use Rattle.rules.proofs.Turning.{bytes-length, bytes-below}
+use Rattle.rules.proofs.Turning.{bytes-length, bytes-below, byte-small, rows-back, row-is}
 use Rattle.rules.proofs.Undo.{Outside}
 use Rattle.rules.specs.Lit.{litIn}
 use Rattle.rules.proofs.ByChange.{lit-outside}
+use Rattle.picture.proofs.Sums.{ones-zero}
+use Rattle.picture.proofs.PutSome.{part-one}
 
--- ---- one byte after the other
+-- ---- some bytes after the other
 
--- n lit spots are counted in the first i bytes
-pub record LitFirst (l : List ℕ) (i n : ℕ) : Type 0 where
-  pub is : n ≡ litIn (take i l)
-  pub few : n ≤ 8 * i
-
-lit-suc : (l : List ℕ) (i : ℕ) → i < length l → litIn (take (suc i) l) ≡ litIn (take i l) + ones (getD l i 0)
+lit-more : (l : List ℕ) (i j : ℕ) → litIn (take (i + j) l) ≡ litIn (take i l) + litIn (part l i j)
 unfolding litIn
-lit-suc [] i h = absurd (not-suc-le-zero h)
-lit-suc (x ∷ l) zero h = omega arith
-lit-suc (x ∷ l) (suc i) h = omega (arith, lit-suc l i (omega arith))
+lit-more l zero j = rw zero-add (sym (zero-add (litIn (take j l))))
+lit-more [] (suc i) j = rw (take-nil, take-nil)
+lit-more (x ∷ l) (suc i) j = rw suc-add (omega (arith, lit-more l i j))
 
-module _ (l : List ℕ) where
-  pub no-byte : LitFirst l 0 0
-  unfolding litIn
-  no-byte = record { is = refl; few = omega arith }
+-- n lit spots are counted in the i bytes from k on, and m in the j bytes behind those
+pub lit-on : (l : List ℕ) (k i j n m : ℕ) → n ≡ litIn (part l k i) → m ≡ litIn (part l (k + i) j) → n + m ≡ litIn (part l k (i + j))
+lit-on l k i j n m e f = ap₂ _+_ e (f ∙ ap (λ (p : List ℕ). litIn (take j p)) (sym (drop-drop i k l))) ∙ sym (lit-more (drop k l) i j)
 
-  pub byte-more : (i n b m : ℕ) → LitFirst l i n → i < length l → b ≡ getD l i 0 → b < 256 → m ≡ ones b → LitFirst l (i + 1) (n + m)
-  byte-more i n b m p h is small e =
-      record {
-        is = rw add-one (ap₂ _+_ (p .is) (e ∙ ap ones is) ∙ sym (lit-suc l i h));
-        few = omega (arith, p .few, ones-le 8 b small);
-      }
+pub lit-one : (l : List ℕ) (k : ℕ) → k < length l → ones (getD l k 0) ≡ litIn (part l k 1)
+unfolding litIn
+lit-one l k h = rw (part-one l k h) (omega arith)
 
-  pub all-bytes : (i n : ℕ) → LitFirst l i n → length l ≤ i → n ≡ litIn l
-  all-bytes i n p h = p .is ∙ ap litIn (take-all i l h)
+-- in the number that some bytes make as many bits are set as in the bytes
+pub ones-joined : (b : List ℕ) → ((i : ℕ) → getD b i 0 < 256) → (k n : ℕ) → k + n ≤ length b → ones (joined b k n) ≡ litIn (part b k n)
+unfolding litIn joined
+ones-joined b small k zero h = ones-zero
+ones-joined b small k (suc n) h =
+    ones-cat 8 (joined b k n) (getD b (k + n) 0) (small (k + n))
+    ∙ rw add-one at (lit-on b k n 1 _ _ (ones-joined b small k n (omega arith)) (lit-one b (k + n) (omega arith)))
+
+-- a row is the number that its bytes make
+pub lit-row : (rows : List ℕ) → ((y : ℕ) → getD rows y 0 < 2 ^ 64) → (k : ℕ) → k % 8 ≡ 0 → k < 8 * length rows
+    → ones (getD rows (k / 8) 0) ≡ litIn (part (bytesOf rows) k 8)
+lit-row rows small k e h =
+    let at : 8 * (k / 8) ≡ k = omega arith in
+    let back = rows-back rows (below-of rows (λ y l. small y)) in
+    let is = row-is (bytesOf rows) (length rows) (bytes-length rows) (k / 8) (omega arith) in
+    ap ones (ap (λ (l : List ℕ). getD l (k / 8) 0) (sym back) ∙ is)
+    ∙ rw at (ones-joined (bytesOf rows) (byte-small rows) k 8 (omega (arith, bytes-length rows)))
 
 -- ---- bytes of a picture replaced
-
-pub in-part : (P : List ℕ) (k n i : ℕ) → i < n → getD (part P k n) i 0 ≡ getD P (k + i) 0
-in-part P k n i h = getD-take n (drop k P) i 0 h ∙ getD-drop k P i 0
 
 -- its number loses what the old bytes have, and gains what the new ones have
 pub lit-over : (rows bytes : List ℕ) (k : ℕ) → length rows ≡ 32 → ((i : ℕ) → getD bytes i 0 < 256) → k + length bytes ≤ 256

@@ -1,4 +1,4 @@
--- Request Q-14: what stands in memory at and above the end is 0 after a load, and no call that takes a state writes or reads it. That the
+-- Request Q-14: what stands in memory at and above the end is 0 after an accepted load, and no call that takes a state writes or reads it. That the
 -- end is kept is claimed with the edition (Editions).
 use mathlib.Core.Path.{_≡_}
 use mathlib.Core.List.{List, _++_}

@@ -1,4 +1,4 @@
--- Request Q-8: the number of lit spots is the picture's count after a load, each call that takes a state keeps it so, and then no change
+-- Request Q-8: the number of lit spots is the picture's count after an accepted load, each call that takes a state keeps it so, and then no change
 -- is refused for it.
 use mathlib.Core.Path.{_≡_}
 use mathlib.Core.Bool.{not}

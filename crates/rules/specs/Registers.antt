@@ -14,13 +14,15 @@ use Rattle.rules.specs.declared.Simple.the-variants.{Index, AddIndex, Di
 use Rattle.rules.specs.Number.{pick, isOne}
 use Rattle.rules.specs.State.{reg, withReg, withI, withPc, withTimers, withStack, withWait}
 
--- PC past this instruction; past the next one too where the test holds
+-- PC past this instruction
 abbrev pub onward : Machine → Machine
 onward m = withPc (m .pc + 2) m
 
+-- past the next one too where the test holds
 abbrev pub skipIf : Bool → Machine → Machine
 skipIf b m = withPc (m .pc + pick b 4 2) m
 
+-- and where it does not
 abbrev pub skipUnless : Bool → Machine → Machine
 skipUnless b m = withPc (m .pc + pick b 2 4) m
 

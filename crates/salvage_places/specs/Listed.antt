@@ -20,7 +20,7 @@ laid new list = new ++ drop (length new) list
 abbrev pub entered : List ℕ → ℕ → ℕ → ℕ → List ℕ
 entered list count p kind = set (set list (2 * count) p) (2 * count + 1) kind
 
--- ---- THE CLAIM, proved in proofs/Told.antt, of the entries for the places that hold none of the k newest records
+-- ---- THE CLAIM, proved in proofs/Listing.antt, of the entries for the places that hold none of the k newest records
 
 -- entry by entry: each has such a place, lowest place first, and as what it counts; and the rest of the list stays
 pub record Tells (r : ℕ) (t : Trail) (k cleared : ℕ) (list after : List ℕ) : Type 0 where

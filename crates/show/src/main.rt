@@ -1,7 +1,7 @@
 // Reads a program from standard input, runs it for 64 steps with no ticks, no keys and random byte 00, as the trace does, and shows what
 // the card's glass then shows, in block characters: the game's own picture, and beside it, where --variables is handed in, the page of its
-// variables. It is loaded for the second edition, which runs what the first runs and four operations more; where --2k is handed in, memory
-// ends at 1,696. The last two lines say how many spots are lit, why it stopped, and where.
+// variables. It is loaded for the second edition, which runs what the first runs and four operations more, or where --first is handed in for
+// the first; where --2k is, memory ends at 1,696. The last two lines say how many spots are lit, why it stopped, and where.
 mod blocks;
 
 use parts::Ran;
@@ -9,37 +9,25 @@ use rules::Edition;
 use rules::Machine;
 use stepper::Switch;
 
-// Whether argument k is that word.
-fn is_word(k: usize, word: &[u8]) -> bool {
-    let mut given = [0u8; 16];
-    let size = os::arg(k, &mut given);
-    check::same(&given[..size], word)
-}
-
-// The same of one of the two arguments that there can be.
-fn has_option(word: &[u8]) -> bool {
-    is_word(1, word) | is_word(2, word)
+fn edition() -> Edition {
+    if options::has_option(b"--first") {
+        return Edition::First;
+    }
+    Edition::Second
 }
 
 fn end_of_memory() -> u16 {
-    if has_option(b"--2k") {
+    if options::has_option(b"--2k") {
         return Machine::SMALL_END as u16;
     }
     Machine::MEMORY as u16
 }
 
 // A program loaded and run. A refused load is a run of no step.
-fn run(end: u16, program: &[u8], rows: &mut [u64]) -> Ran {
+fn run(edition: Edition, end: u16, program: &[u8], rows: &mut [u64]) -> Ran {
     let mut memory = [0u8; Machine::MEMORY];
     let mut history = [0u8; history::PLACE];
-    let start = chip8::load(
-        Edition::Second,
-        end,
-        program,
-        &mut memory,
-        rows,
-        &mut history,
-    );
+    let start = chip8::load(edition, end, program, &mut memory, rows, &mut history);
     let outcome = start.outcome;
     let machine = start.machine;
     let trail = start.trail;
@@ -76,7 +64,7 @@ fn main() {
     let mut input = [0u8; Machine::TOO_LONG];
     let size = io::read_full(0, &mut input);
     let mut rows = [0u64; Machine::ROWS];
-    let ran = run(end_of_memory(), &input[..size], &mut rows);
+    let ran = run(edition(), end_of_memory(), &input[..size], &mut rows);
     let mut picture = [0u8; Machine::PICTURE];
     chip8::to_bytes(&rows, &mut picture);
     let mut page = [0u8; Machine::PICTURE];
@@ -84,7 +72,7 @@ fn main() {
     stepper::draw(machine, &mut page);
     let game = glass_of(Switch::Game, &picture, &page);
     let variables = glass_of(Switch::Variables, &picture, &page);
-    blocks::write(&game, &variables, has_option(b"--variables"));
+    blocks::write(&game, &variables, options::has_option(b"--variables"));
     blocks::write_lit(machine.lit);
     blocks::write_stop(ran);
 }

@@ -15,7 +15,7 @@ use Rattle.rules.specs.Promise.{Gives}
 use Rattle.io.specs.Counts.{Counts}
 use Rattle.text.specs.Put.{Put}
 use Rattle.text.proofs.Joined.{kept, so-far}
-use Rattle.rules.specs.declared.Edition.the-variants.{First}
+use Rattle.rules.specs.declared.Edition.{Edition}
 use Rattle.rules.specs.Load.{load}
 use Rattle.line.specs.Line.{header, stopLine}
 use Rattle.trace.specs.Trace.{lineOf, stepsFrom, blankMemory, blankPicture, blankHistory, traceOf}
@@ -61,15 +61,15 @@ module _ {whole out : List ℕ} {at n : ℕ} {w : World} (p : Printed whole out 
 pub counted : (l : List ℕ) (r : ℕ) → r ≤ length l → Counts r l
 counted l r h = (h, sym (length-take-le r l h))
 
-abbrev start : ℕ → List ℕ → Answer
-start end program = load First end program blankMemory blankPicture blankHistory
+abbrev start : Edition → ℕ → List ℕ → Answer
+start edition end program = load edition end program blankMemory blankPicture blankHistory
 
-module _ (end : ℕ) (program : List ℕ) {out out′ : List ℕ} {k : ℕ} (p : Put header out 0 out′ k) where
-  pub load-refused : {out″ : List ℕ} {r n : ℕ} {w : World} → (start end program) .refusal ≡ n → (n ≡ 0 → ⊥) → (start end program) .world ≡ w → Put (stopLine n (w .machine .pc)) out′ k out″ r
-      → take r out″ ≡ traceOf end program
+module _ (edition : Edition) (end : ℕ) (program : List ℕ) {out out′ : List ℕ} {k : ℕ} (p : Put header out 0 out′ k) where
+  pub load-refused : {out″ : List ℕ} {r n : ℕ} {w : World} → (start edition end program) .refusal ≡ n → (n ≡ 0 → ⊥) → (start edition end program) .world ≡ w → Put (stopLine n (w .machine .pc)) out′ k out″ r
+      → take r out″ ≡ traceOf edition end program
   unfolding traceOf
   load-refused {n = n} e ne f q = so-far q ∙ rw (so-far p, e, ne-eqb n 0 ne, f)
 
-  pub load-done : {l : List ℕ} {w : World} → (start end program) .refusal ≡ 0 → (start end program) .world ≡ w → l ≡ take k out′ ++ stepsFrom 64 1 w → l ≡ traceOf end program
+  pub load-done : {l : List ℕ} {w : World} → (start edition end program) .refusal ≡ 0 → (start edition end program) .world ≡ w → l ≡ take k out′ ++ stepsFrom 64 1 w → l ≡ traceOf edition end program
   unfolding traceOf
   load-done e f g = g ∙ rw (so-far p, e, f)

@@ -3,7 +3,7 @@ use mathlib.Core.List.{List, _++_}
 use Prim.Native.Nat.{ℕ, zero, suc, _+_, _*_}
 use lib.ListN.{getD, replicate}
 use lib.Dec.{eqb}
-use Rattle.rules.specs.declared.Edition.the-variants.{First}
+use Rattle.rules.specs.declared.Edition.{Edition}
 use Rattle.rules.specs.Number.{pick}
 use Rattle.rules.specs.State.{memorySize, pictureSize, reg}
 use Rattle.rules.specs.Record.{placeSize}
@@ -40,8 +40,8 @@ blankPicture = replicate pictureSize 0
 abbrev pub blankHistory : List ℕ
 blankHistory = replicate placeSize 0
 
--- document 01's trace has the end 4,096
-unfoldable pub traceOf : ℕ → List ℕ → List ℕ
-traceOf end program =
-    let a = load First end program blankMemory blankPicture blankHistory in
+-- document 01's trace has the first edition and the end 4,096
+unfoldable pub traceOf : Edition → ℕ → List ℕ → List ℕ
+traceOf edition end program =
+    let a = load edition end program blankMemory blankPicture blankHistory in
     header ++ pick (eqb (a .refusal) 0) (stepsFrom 64 1 (a .world)) (stopLine (a .refusal) (a .world .machine .pc))

@@ -67,22 +67,15 @@ fn put_steps(
     line::put_stop(out, at, 0, m.pc)
 }
 
-pub fn put_trace(out: &mut [u8; 2048], end: u16, program: &[u8]) -> usize
+pub fn put_trace(out: &mut [u8; 2048], edition: Edition, end: u16, program: &[u8]) -> usize
     ensures { λ r. ⌜ Counts r (now (out .exit)) ⌝ }
-    ensures { λ r. ⌜ take r (now (out .exit)) ≡ rule.traceOf end (now (program .entry)) ⌝ }
+    ensures { λ r. ⌜ take r (now (out .exit)) ≡ rule.traceOf edition end (now (program .entry)) ⌝ }
 {
     let mut memory = [0u8; Machine::MEMORY];
     let mut rows = [0u64; Machine::ROWS];
     let mut history = [0u8; history::PLACE];
     let at = line::put_header(out, 0);
-    let start = chip8::load(
-        Edition::First,
-        end,
-        program,
-        &mut memory,
-        &mut rows,
-        &mut history,
-    );
+    let start = chip8::load(edition, end, program, &mut memory, &mut rows, &mut history);
     let machine = start.machine;
     let outcome = start.outcome;
     let refusal = parts::number(outcome);

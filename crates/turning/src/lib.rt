@@ -1,9 +1,8 @@
 // The picture's two forms, turned into each other: bytes for the panel and for whoever keeps a picture, rows for the calls that work on it.
 ghost use mathlib.Core.Path.{_≡_};
-ghost use Prim.Native.Nat.{_+_, _≤_};
 ghost use lib.ListN.{length};
 ghost use Rattle.rules.specs.Refusal.{number};
-ghost use Rattle.rules.specs.Rows.{bytesOf, joined, rowsOf};
+ghost use Rattle.rules.specs.Rows.{rowsOf};
 ghost use Rattle.turning.specs.Turn.{fits, turnRefusal, rowsAfter, bytesAfter};
 use rules::Machine;
 use rules::Outcome;
@@ -15,27 +14,13 @@ fn both_fit(picture: &[u8], rows: &[u64]) -> bool
     (picture.len() == Machine::PICTURE) & (rows.len() == Machine::ROWS)
 }
 
-// The row that the eight bytes from k on make, the first one highest.
-fn row_at(picture: &[u8], k: usize) -> u64
-    requires { ⌜ k + 8 ≤ length (now picture) ⌝ }
-    ensures { λ r. ⌜ r ≡ joined (now (picture .entry)) k 8 ⌝ }
-{
-    let mut n = 0;
-    let mut j = 0;
-    while j < 8 {
-        n = (n << 8) | picture::wide(picture[k + j]);
-        j += 1;
-    }
-    n
-}
-
 fn fill(picture: &[u8], rows: &mut [u64])
     requires { ⌜ (length (now picture) ≡ 256) × (length (now rows) ≡ 32) ⌝ }
     ensures { λ _. ⌜ now (rows .exit) ≡ rowsOf (now (picture .entry)) ⌝ }
 {
     let mut y = 0;
     while y < Machine::ROWS {
-        rows[y] = row_at(picture, 8 * y);
+        rows[y] = picture::row_at(picture, 8 * y);
         y += 1;
     }
 }

@@ -1,7 +1,7 @@
 //! Steps a second of the card's archive, beside the hand-tuned engine and
-//! beside the floor: only clearing the 292 bytes of each action's record. Then
-//! bytes a second of the panel, beside copying as many bytes, and steps a second of
-//! the plain engine.
+//! beside the floor: only clearing the 292 bytes of each action's record. Then steps
+//! back and forward a second, bytes a second of the panel, beside copying as many
+//! bytes, and steps a second of the plain engine.
 //!
 //! Everything is measured in turns, and in several rounds over all programs. So
 //! what else the computer does, or another that shares its processor, meets all of
@@ -9,11 +9,12 @@
 
 use std::fmt;
 use std::hint::black_box;
-use std::time::Instant;
+use std::time::{Duration, Instant};
 
 use harness::card::{self, Archive};
 use harness::desk::{Desk, Program, PLAYED, PROGRAMS};
 use harness::dots::PANEL;
+use harness::engine::Engine;
 use harness::plain::SPOTS;
 use harness::second::{HISTORY_MOST, LIST_MOST, PICTURE, PLACE};
 use harness::tuned::Tuned;
@@ -31,6 +32,7 @@ fn main() {
     );
     let mut turns: [[Turns; PROGRAMS.len()]; HISTORIES.len()] = Default::default();
     let mut played: [Turns; PLAYED.len()] = Default::default();
+    let mut pressed: [Presses; PROGRAMS.len()] = Default::default();
     for _ in 0..ROUNDS {
         for (history_length, turns) in HISTORIES.into_iter().zip(&mut turns) {
             for (program, turns) in PROGRAMS.iter().zip(turns) {
@@ -39,6 +41,9 @@ fn main() {
         }
         for (program, turns) in PLAYED.iter().zip(&mut played) {
             measure(program, HISTORY_MOST, turns);
+        }
+        for (program, presses) in PROGRAMS.iter().zip(&mut pressed) {
+            measure_button(program, presses);
         }
     }
     for (history_length, turns) in HISTORIES.into_iter().zip(turns) {
@@ -49,6 +54,7 @@ fn main() {
     }
     println!("\nPrograms of the folder programs, with keys and a tick every tenth step");
     print_runs(&measured(&PLAYED, played));
+    print_button(pressed);
     print_panel();
     print_plain();
 }
@@ -83,6 +89,25 @@ fn print_steps(measured: &[(&str, Measured)]) {
         println!(
             "{name:<15} | {} | {} | {:<15} | {to_tuned} |",
             m.card_step, m.tuned_step, ""
+        );
+    }
+}
+
+/// Both ends of the button, over all that a history of the greatest length keeps.
+fn print_button(pressed: [Presses; PROGRAMS.len()]) {
+    println!("\nThe button, a call a press: millions of presses a second");
+    println!(
+        "{:<15} | {:<15} | {:<15} | {:<11} | {:<15} | {:<15} | card/tuned",
+        "after a run", "card_back", "tuned", "card/tuned", "card_forward", "tuned"
+    );
+    for (program, presses) in PROGRAMS.iter().zip(pressed) {
+        let [card_back, card_forward] = presses.card.map(best_and_median);
+        let [tuned_back, tuned_forward] = presses.tuned.map(best_and_median);
+        println!(
+            "{:<15} | {card_back} | {tuned_back} | {} | {card_forward} | {tuned_forward} | {}",
+            program.name,
+            card_back.to(&tuned_back),
+            card_forward.to(&tuned_forward)
         );
     }
 }
@@ -203,6 +228,44 @@ fn measure(program: &Program, history_length: usize, turns: &mut Turns) {
         turns.floor.push(speed(|| clear_places(&mut cleared)));
         turns.card_step.push(speed(|| card.steps()));
         turns.tuned_step.push(speed(|| tuned.steps()));
+    }
+}
+
+/// What each turn at the button came to, back and forward, of either engine.
+#[derive(Default)]
+struct Presses {
+    card: [Vec<f64>; 2],
+    tuned: [Vec<f64>; 2],
+}
+
+/// One round at the button: takes the two engines in turns.
+fn measure_button(program: &Program, presses: &mut Presses) {
+    let mut card = Desk::new(program, HISTORY_MOST, &Archive);
+    let mut tuned = Desk::new(program, HISTORY_MOST, &Tuned);
+    card.run();
+    tuned.run();
+    for _ in 0..TURNS {
+        press(&mut card, &mut presses.card);
+        press(&mut tuned, &mut presses.tuned);
+    }
+}
+
+/// One turn: all the way back and forward again, some times.
+fn press<E: Engine<u64>>(desk: &mut Desk<E>, [backs, forwards]: &mut [Vec<f64>; 2]) {
+    let mut took = [Duration::ZERO; 2];
+    let mut made = 0;
+    for _ in 0..LISTS_A_TURN {
+        let start = Instant::now();
+        let back = desk.backs();
+        let turned = Instant::now();
+        let forward = desk.forwards();
+        took[0] += turned - start;
+        took[1] += turned.elapsed();
+        assert_eq!((back, forward), (HISTORY_MOST / PLACE, back));
+        made += back;
+    }
+    for (speeds, took) in [backs, forwards].into_iter().zip(took) {
+        speeds.push(made as f64 / took.as_secs_f64() / 1e6);
     }
 }
 

@@ -1,43 +1,39 @@
 -- The invariant: both counts are those of the first i bytes, of the old ones and of the new ones.
-use mathlib.Core.Path.{_≡_, sym, _∙_}
-use Prim.Native.Nat.{_-_, _≤_}
+use mathlib.Core.Path.{_≡_, refl, ap, _∙_}
+use Prim.Native.Nat.{_-_, _*_, _≤_}
+use native.Mathlib.Nat.{zero-add}
 use native.Mathlib.Omega.{arith}
 use lib.ListN.{length}
+use lib.Seq.{take-length}
 use Rattle.rules.specs.Memory.{part}
+use Rattle.rules.specs.Lit.{litIn}
 use Rattle.rules.specs.Rows.{bytesOf}
-use Rattle.rules.proofs.Parts.{part-length}
-use Rattle.rules.proofs.Turning.{bytes-length}
-use Rattle.picture.proofs.Replaced.{LitFirst, no-byte, byte-more, all-bytes, in-part, lit-over}
+use Rattle.picture.proofs.Replaced.{lit-on, lit-over}
 use Rattle.picture.proofs.would_put.Statement.{statement}
 use Rattle.picture.proofs.would_put.Tie as tie
 
 abbrev Inv-loop : tie.InvT-loop
 Inv-loop rows k bytes dark₀ lit₀ i₀ dark lit i =
-    LitFirst (part (bytesOf rows) k (length bytes)) i dark × LitFirst bytes i lit × (i ≤ length bytes)
+    (dark ≡ litIn (part (bytesOf rows) k i)) × (lit ≡ litIn (part bytes 0 i)) × (dark ≤ 8 * i) × (lit ≤ 8 * i) × (i ≤ length bytes)
 
 abbrev μ-loop : tie.MeasureT-loop
 μ-loop rows k bytes dark₀ lit₀ i₀ dark lit i = length bytes - i
 
 loop-holds : tie.Need-loop-holds Inv-loop μ-loop
-loop-holds c = (no-byte _, no-byte _, omega arith)
-
--- as many old bytes as new ones
-sized : (c : tie.At-loop Inv-loop μ-loop) → let a = c .before .before .before .args in
-    length (part (bytesOf (a .rows .now)) (a .k) (length (a .bytes .now))) ≡ length (a .bytes .now)
-sized c = let a = c .before .before .before .args in part-length (bytesOf (a .rows .now)) (a .k) (length (a .bytes .now)) (omega (arith, bytes-length (a .rows .now)))
+unfolding litIn
+loop-holds c = (refl, refl, omega arith, omega arith, omega arith)
 
 loop-again : tie.Need-loop-again Inv-loop μ-loop
 loop-again c =
-    let old = c .before .before .before .wide in
-    let new = c .before .wide2 in
-    let byte = c .before .before .before .before .before in
-    let at = byte .before .before in
-    let a = at .before .before .before .args in
-    let l = at .loop in
-    let there = in-part (bytesOf (a .rows .now)) (a .k) (length (a .bytes .now)) (l .i) (omega arith) in (
-      byte-more _ (l .i) (l .dark) (old .result) _ (l .inv .0) (omega (arith, sized at)) (old .ensures .0 ∙ byte .byte-at .ensures ∙ sym there) (old .ensures .1)
-          (c .before .before .ones-in .ensures .0),
-      byte-more _ (l .i) (l .lit) (new .result) _ (l .inv .1) (omega arith) (new .ensures .0) (new .ensures .1) (c .ones-in2 .ensures .0),
+    let some = c .before .before in
+    let at = some .before in
+    let l = at .before .before .loop in
+    let a = at .before .before .before .before .before .args in
+    let is = some .would-put-some .ensures .0 in (
+      lit-on (bytesOf (a .rows .now)) (a .k) (l .i) (at .at-once .result) (l .dark) _ (l .inv .0) (is .0),
+      lit-on (a .bytes .now) 0 (l .i) (at .at-once .result) (l .lit) _ (l .inv .1) (rw zero-add (is .1)),
+      omega arith,
+      omega arith,
       omega arith,
     )
 
@@ -46,12 +42,13 @@ returns c =
     let at = c .before in
     let a = at .before .before .before .args in
     let l = at .loop in
-    let dark = all-bytes _ (l .i) (l .dark) (l .inv .0) (omega (arith, sized at)) in
-    let lit = all-bytes _ (l .i) (l .lit) (l .inv .1) (omega arith) in
+    let all : l .i ≡ length (a .bytes .now) = omega arith in
+    let dark = rw all at (l .inv .0) in
+    let lit = rw all at (l .inv .1) ∙ ap litIn (take-length (a .bytes .now)) in
     let law = lit-over (a .rows .now) (a .bytes .now) (a .k) (omega arith) (λ i. omega (arith, at .before .shared-slice-known2 .given i)) (omega arith) in
     (omega (arith, dark, lit, law), (omega arith, omega arith))
 
 pub would-put-spec : {M : Type 1} → statement M
 would-put-spec =
-    tie.close (tie.spec Inv-loop μ-loop loop-holds (λ c. omega arith) (λ c κs. (omega arith, omega arith)) (λ c. omega arith) (λ c κs. tt) (λ c κs. tt) (λ c. omega arith)
-    (λ c κs. tt) (λ c κs. tt) (λ c. omega arith) (λ c. omega arith) (λ c. omega arith) loop-again returns)
+    tie.close (tie.spec Inv-loop μ-loop loop-holds (λ c. omega arith) (λ c. omega arith) (λ c κs. omega arith)
+    (λ c κs. (omega arith, omega arith, omega arith, c .at-once .ensures .0)) (λ c. omega arith) (λ c. omega arith) (λ c. omega arith) (λ c. omega arith) loop-again returns)

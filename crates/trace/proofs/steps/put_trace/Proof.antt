@@ -15,7 +15,7 @@ returns c =
     let g = rw bytes-dark at (load .load .ensures) in
     let q = c .put-stop .ensures in (
       counted _ _ (omega (arith, q .ends, q .room, kept q)),
-      load-refused _ _ (load .before .before .before .before .put-header .ensures) (sym (g .says) ∙ sym (number .number .ensures)) (c .before .before .if1 .taken) (handed g) q,
+      load-refused _ _ _ (load .before .before .before .before .put-header .ensures) (sym (g .says) ∙ sym (number .number .ensures)) (c .before .before .if1 .taken) (handed g) q,
     )
 
 returns-2 : tie.Need-returns-2
@@ -25,7 +25,7 @@ returns-2 c =
     let load = number .before .before .before .before .before in
     let g = rw bytes-dark at (load .load .ensures) in (
       counted _ _ (omega (arith, steps .put-steps .ensures .0, steps .put-steps .kept .0)),
-      load-done _ _ (load .before .before .before .before .put-header .ensures) (sym (g .says) ∙ sym (number .number .ensures) ∙ steps .before .before .before .before .before .before .if1 .left) (handed g) (steps .put-steps .ensures .1),
+      load-done _ _ _ (load .before .before .before .before .put-header .ensures) (sym (g .says) ∙ sym (number .number .ensures) ∙ steps .before .before .before .before .before .before .if1 .left) (handed g) (steps .put-steps .ensures .1),
     )
 
 pub put-trace-spec : {M : Type 1} → statement M
