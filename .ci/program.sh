@@ -18,7 +18,7 @@ for word; do
     no-h | no--help) sed -n '2,/^$/s/^# \{0,1\}//p' "$0" | sed '/^set /,$d'; exit 0 ;;
     no-?*)
         case " ${options:-} " in *" $word "*) ;; *) die "there is no $word; ./$script --help says what there is" ;; esac
-        words="$words $word"
+        case "$words " in *" $word "*) ;; *) words="$words $word" ;; esac
         ;;
     *)
         name=$word

@@ -1,12 +1,11 @@
 -- The lit spots of bytes counted, some after the other or in one number; and what replacing bytes of a picture by others does to its number.
 use mathlib.Core.Path.{_≡_, refl, sym, ap, ap₂, _∙_}
-use mathlib.Core.List.{List, [], _∷_}
+use mathlib.Core.List.{List}
 use Prim.Native.Nat.{ℕ, zero, suc, _+_, _*_, _/_, _%_, _^_, _≤_, _<_}
-use native.Mathlib.Nat.{zero-add, suc-add}
 use native.Mathlib.Omega.{arith}
 use native.Mathlib.Numerals.{add-one}
 use lib.ListN.{length, getD, take, drop}
-use lib.Seq.{take-nil, drop-drop}
+use lib.Seq.{take-add, drop-drop}
 use lib.Count.{ones, ones-cat}
 use Rattle.rules.specs.Memory.{part, over}
 use Rattle.rules.specs.Picture.{litSpots}
@@ -16,21 +15,18 @@ use Rattle.rules.proofs.Parts.{over-take, over-drop, part-over-same, below-of, 
 use Rattle.rules.proofs.Turning.{bytes-length, bytes-below, byte-small, rows-back, row-is}
 use Rattle.rules.proofs.Undo.{Outside}
 use Rattle.rules.specs.Lit.{litIn}
-use Rattle.rules.proofs.ByChange.{lit-outside}
+use Rattle.rules.proofs.ByChange.{lit-append, lit-outside}
 use Rattle.picture.proofs.Sums.{ones-zero}
 use Rattle.picture.proofs.PutSome.{part-one}
 
 -- ---- some bytes after the other
 
-lit-more : (l : List ℕ) (i j : ℕ) → litIn (take (i + j) l) ≡ litIn (take i l) + litIn (part l i j)
-unfolding litIn
-lit-more l zero j = rw zero-add (sym (zero-add (litIn (take j l))))
-lit-more [] (suc i) j = rw (take-nil, take-nil)
-lit-more (x ∷ l) (suc i) j = rw suc-add (omega (arith, lit-more l i j))
-
 -- n lit spots are counted in the i bytes from k on, and m in the j bytes behind those
 pub lit-on : (l : List ℕ) (k i j n m : ℕ) → n ≡ litIn (part l k i) → m ≡ litIn (part l (k + i) j) → n + m ≡ litIn (part l k (i + j))
-lit-on l k i j n m e f = ap₂ _+_ e (f ∙ ap (λ (p : List ℕ). litIn (take j p)) (sym (drop-drop i k l))) ∙ sym (lit-more (drop k l) i j)
+lit-on l k i j n m e f =
+    let rest = drop k l in
+    ap₂ _+_ e (f ∙ ap (λ (p : List ℕ). litIn (take j p)) (sym (drop-drop i k l)))
+    ∙ sym (ap litIn (take-add i j rest) ∙ lit-append (take i rest) (part rest i j))
 
 pub lit-one : (l : List ℕ) (k : ℕ) → k < length l → ones (getD l k 0) ≡ litIn (part l k 1)
 unfolding litIn

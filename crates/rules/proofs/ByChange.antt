@@ -51,7 +51,7 @@ sum-number f (suc n) s = ap (λ (k : ℕ). sumFrom f k s) (sym (add-one n)) ∙ 
 
 -- ---- a picture's bytes
 
-lit-append : (a b : List ℕ) → litIn (a ++ b) ≡ litIn a + litIn b
+pub lit-append : (a b : List ℕ) → litIn (a ++ b) ≡ litIn a + litIn b
 unfolding litIn
 lit-append [] b = sym (zero-add (litIn b))
 lit-append (x ∷ a) b = rw (lit-append a b) (omega arith)

@@ -16,13 +16,6 @@ fn edition() -> Edition {
     Edition::Second
 }
 
-fn end_of_memory() -> u16 {
-    if options::has_option(b"--2k") {
-        return Machine::SMALL_END as u16;
-    }
-    Machine::MEMORY as u16
-}
-
 // A program loaded and run. A refused load is a run of no step.
 fn run(edition: Edition, end: u16, program: &[u8], rows: &mut [u64]) -> Ran {
     let mut memory = [0u8; Machine::MEMORY];
@@ -64,7 +57,12 @@ fn main() {
     let mut input = [0u8; Machine::TOO_LONG];
     let size = io::read_full(0, &mut input);
     let mut rows = [0u64; Machine::ROWS];
-    let ran = run(edition(), end_of_memory(), &input[..size], &mut rows);
+    let ran = run(
+        edition(),
+        options::end_of_memory(),
+        &input[..size],
+        &mut rows,
+    );
     let mut picture = [0u8; Machine::PICTURE];
     chip8::to_bytes(&rows, &mut picture);
     let mut page = [0u8; Machine::PICTURE];

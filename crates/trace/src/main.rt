@@ -12,17 +12,15 @@ fn edition() -> Edition {
     Edition::First
 }
 
-fn end_of_memory() -> u16 {
-    if options::has_option(b"--2k") {
-        return Machine::SMALL_END as u16;
-    }
-    Machine::MEMORY as u16
-}
-
 fn main() {
     let mut input = [0u8; Machine::TOO_LONG];
     let size = io::read_full(0, &mut input);
     let mut out = [0u8; 2048];
-    let end = steps::put_trace(&mut out, edition(), end_of_memory(), &input[..size]);
+    let end = steps::put_trace(
+        &mut out,
+        edition(),
+        options::end_of_memory(),
+        &input[..size],
+    );
     io::write_all(1, &out[..end]);
 }
