@@ -1,5 +1,7 @@
 // What an accepted instruction does, but for a drawing and for one on the state alone: a quiet one, and any other. Nothing can fail here any
 // more. An arm that only hands the core back is never asked.
+#![tactic(auto)]
+
 ghost use Rattle.std.specs.Prelude.{List, ℕ};
 ghost use Rattle.rules.specs.State.{picture_size};
 ghost use Rattle.rules.specs.Rows.{bytes_of};

@@ -1,4 +1,6 @@
 // The numbers that a call of the boundary answers.
+#![tactic(auto)]
+
 ghost use Rattle.std.specs.Prelude.{◌≡◌};
 ghost use Rattle.answering.specs.Answer.{answered};
 

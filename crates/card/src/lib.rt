@@ -1,5 +1,7 @@
 // The C boundary: the library's calls on byte buffers and numbers, for hosts in C and Rust. include/card.h says the same to them.
 // Each call may be handed anything that its types allow, ends, and leaves what the definitions of specs/Card.antt say.
+#![tactic(auto)]
+
 ghost use Rattle.std.specs.Prelude.{◌≡◌, true, List, ℕ, eqb};
 ghost use Rattle.rules.specs.Number.{pick};
 ghost use Rattle.rules.specs.Past.{PlayTells};

@@ -1,6 +1,7 @@
 // The library: the calls that a dock makes. Each may be handed anything, ends, and gives what the rules define. A refused call hands
 // everything back as it came; only a run or a play keeps the actions before a refused one, and a load hands back a fresh state. Each has a
 // crate of its own, where its statement stands above its code.
+#![tactic(auto)]
 
 // Loads a program for an edition: digits, program and zeros to memory, zeros to the picture and the history.
 pub use loading::load;

@@ -1,4 +1,6 @@
 // Whether a record is damaged: the tests of document 01's list, and the last byte's. The specs of `rules`, Record.antt, say what a record is.
+#![tactic(auto)]
+
 ghost use Rattle.std.specs.Prelude.{◌≡◌, length};
 ghost use Rattle.rules.specs.Record.{place_size, at_depth};
 ghost use Rattle.rules.specs.Record.{byte_at, marked, known, allowed, depth_sound, key_sound, kind_sound, damaged, change_at};

@@ -1,4 +1,6 @@
 // The sixteen digits, laid out from overlapping bytes: the chip's constant store is nearly full, and digits have bytes in common.
+#![tactic(auto)]
+
 ghost use Rattle.std.specs.Prelude.{◌≡◌, true, ◌+◌, ◌*◌, ◌/◌, ◌%◌, ◌≤◌, ◌<◌, ltb, length, get_or};
 ghost use Rattle.digits.specs.Table.{are_digits};
 ghost use Rattle.rules.specs.Number.{pick};

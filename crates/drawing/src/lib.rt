@@ -1,4 +1,6 @@
 // A pattern drawn into the picture: its rows are kept and turned over in one pass, and counted.
+#![tactic(auto)]
+
 ghost use Rattle.std.specs.Prelude.{◌≡◌, ◌+◌, ◌-◌, ◌*◌, ◌≤◌, ◌<◌, min, length};
 ghost use Rattle.rules.specs.Memory.{part, over};
 ghost use Rattle.rules.specs.Picture.{drawn};
@@ -18,7 +20,7 @@ fn least(a: usize, b: usize) -> usize
 }
 
 // How many lit spots some rows of a pattern meet, and how many spots they show.
-#[derive(Drop)]
+#[derive(Clone, Copy)]
 struct Met {
     dark: usize,
     all: usize,

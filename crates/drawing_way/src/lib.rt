@@ -1,4 +1,6 @@
 // The way of a drawing through a step of a tested world. It is judged, and its record is kept while it is drawn.
+#![tactic(auto)]
+
 ghost use Rattle.rules.specs.World.{world};
 ghost use Rattle.rules.specs.Rows.{bytes_of};
 ghost use Rattle.parts.specs.Whole.{whole};

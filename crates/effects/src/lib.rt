@@ -1,4 +1,6 @@
 // What an instruction on the state alone writes, as a value: found for each kind of instruction from the numbers that it reads, and written.
+#![tactic(auto)]
+
 ghost use Rattle.std.specs.Prelude.{◌≡◌, ℕ, ◌+◌, ◌-◌, ◌*◌, ◌/◌, ◌%◌, ◌≤◌, List, nat_le, nat_lt};
 ghost use Rattle.rules.specs.Number.{pick, is_one};
 ghost use Rattle.rules.specs.State.{with_pc, with_timers};
@@ -12,7 +14,7 @@ use registers::flag;
 use rules::Timers;
 
 // What an instruction writes: PC alone; or a result to VX, a result and a flag, I, or the timers, and then PC goes on.
-#[derive(Drop)]
+#[derive(Clone, Copy)]
 pub enum Effect {
     Next(u16),
     Result(u8, u8),

@@ -1,4 +1,6 @@
 // What one entry of a run's lists does in a tested world: its ticks, then its step.
+#![tactic(auto)]
+
 ghost use Rattle.std.specs.Prelude.{List, ℕ};
 ghost use Rattle.rules.specs.declared.Outcome.TheVariants.{Done};
 ghost use Rattle.rules.specs.World.{world};

@@ -1,4 +1,6 @@
 // The parts of a record as bytes and numbers, before they are laid. The specs of `rules`, Record.antt, say what a record is.
+#![tactic(auto)]
+
 ghost use Rattle.std.specs.Prelude.{◌≡◌, [], ◌∷◌, ◌++◌, ◌-◌, ◌≤◌, ◌<◌, eqb, get_or};
 ghost use Rattle.rules.specs.Number.{pick, word};
 ghost use Rattle.rules.specs.State.{stack_size};

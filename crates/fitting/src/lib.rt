@@ -1,4 +1,6 @@
 // Whether what is lent fits: the lengths of the buffers and of the lists, and next, kept and ahead in the places of the history.
+#![tactic(auto)]
+
 ghost use Rattle.std.specs.Prelude.{◌≡◌, ◌&&◌, eqb, leb};
 ghost use Rattle.rules.specs.World as fit;
 ghost use Rattle.rules.specs.Typed.{Below};

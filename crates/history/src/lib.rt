@@ -1,4 +1,6 @@
 // A history's records, read back. The specs of `rules`, Record.antt, say what a record is.
+#![tactic(auto)]
+
 ghost use Rattle.std.specs.Prelude.{◌≡◌, ◌++◌, ◌-◌, ◌≤◌, length, take, replicate};
 ghost use Rattle.history.specs.Restored.{restored};
 ghost use Rattle.rules.specs.Memory.{part};
@@ -11,7 +13,7 @@ use rules::{Action, Change, Machine, Timers, Wait};
 
 // What a record gives back: the state before the action, and what the action changed. A damaged one gives the present state and no
 // change.
-#[derive(Drop)]
+#[derive(Clone, Copy)]
 pub struct Restored {
     pub damaged: bool,
     pub machine: Machine,

@@ -1,4 +1,6 @@
 // A state and its numbers, read from an image of 64 bytes.
+#![tactic(auto)]
+
 ghost use Rattle.std.specs.Prelude.{◌≡◌, ◌+◌, ◌*◌, ◌/◌, ◌%◌, ◌<◌, drop, length};
 ghost use Rattle.rules.specs.Number.{pick};
 ghost use Rattle.rules.specs.State.{zeros};
@@ -12,7 +14,7 @@ use rules::{Edition, Machine, Timers, Trail, Wait};
 pub const IMAGE: usize = 64;
 
 // A state and the numbers of its history.
-#[derive(Drop)]
+#[derive(Clone, Copy)]
 pub struct Standing {
     pub machine: Machine,
     pub trail: Trail,

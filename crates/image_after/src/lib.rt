@@ -1,4 +1,6 @@
 // The image after a call, and the numbers that tell of it.
+#![tactic(auto)]
+
 ghost use Rattle.std.specs.Prelude.{◌≡◌, eqb, length};
 ghost use Rattle.rules.specs.Number.{pick};
 ghost use Rattle.rules.specs.Refusal as refusal;

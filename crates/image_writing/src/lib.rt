@@ -1,4 +1,6 @@
 // The image of a state and its numbers, written piece by piece from its beginning: the variables, and then six times four numbers of two bytes.
+#![tactic(auto)]
+
 ghost use Rattle.std.specs.Prelude.{◌≡◌, [], ◌∷◌, ◌++◌, ◌+◌, ◌≤◌, length, replicate};
 ghost use Rattle.rules.specs.Number.{word};
 ghost use Rattle.rules.specs.Rows.{eight_of};

@@ -1,5 +1,7 @@
 // The library's single calls on a machine that stands in an image of the right length: it is read, the call is made, and what the call
 // gave is written back. A run and a play stand in `imaged_lists`.
+#![tactic(auto)]
+
 ghost use Rattle.std.specs.Prelude.{◌≡◌, true, List, ℕ, eqb, length};
 ghost use Rattle.rules.specs.declared.Edition.TheVariants.{First};
 ghost use Rattle.rules.specs.Number.{pick, unless};
@@ -16,7 +18,7 @@ ghost use Rattle.imaged.specs.Imaged.{world_of, shown, load_by, whole, Leaves};
 use rules::{Edition, Machine, Trail};
 
 // What a step tells besides the bytes: the refusal number or 0, whether it was accepted, and the lit spots that it darkened.
-#[derive(Drop)]
+#[derive(Clone, Copy)]
 pub struct Told {
     pub number: u32,
     pub accepted: u64,

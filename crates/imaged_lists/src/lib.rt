@@ -1,5 +1,7 @@
 // A run and a play on a machine that stands in an image of the right length: it is read, the call is made, and what the call gave is
 // written back.
+#![tactic(auto)]
+
 ghost use Rattle.std.specs.Prelude.{◌≡◌, length};
 ghost use Rattle.rules.specs.Run as rules_run;
 ghost use Rattle.rules.specs.Dark.{run_dark};
@@ -13,7 +15,7 @@ use parts::Answer;
 
 // What a run tells besides the bytes: the refusal number or 0, the accepted steps, the lit spots that they darkened, and the bytes that their
 // records keep.
-#[derive(Drop)]
+#[derive(Clone, Copy)]
 pub struct Told {
     pub number: u32,
     pub accepted: u64,

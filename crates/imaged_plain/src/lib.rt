@@ -1,5 +1,7 @@
 // A run of the plain engine on a machine that stands in an image of the right length: it is read, the run is made, and what it gave is
 // written back. Next, kept and ahead of the image are written as they were read.
+#![tactic(auto)]
+
 ghost use Rattle.std.specs.Prelude.{◌≡◌, length};
 ghost use Rattle.image.specs.Image.{image_size};
 ghost use Rattle.imaged_plain.specs.PlainOn.{plain_of, plain_on, LeavesPlain};
@@ -7,7 +9,7 @@ ghost use Rattle.imaged_plain.specs.PlainOn.{plain_of, plain_on, LeavesPlain};
 use parts::Answer;
 
 // What a run tells besides the bytes: the refusal number or 0, and the accepted steps.
-#[derive(Drop)]
+#[derive(Clone, Copy)]
 pub struct Told {
     pub number: u32,
     pub accepted: u64,

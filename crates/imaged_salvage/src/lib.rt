@@ -1,5 +1,7 @@
 // The salvage of a worn history beside an image of the right length: the state and the numbers are read, the history is salvaged, and the new
 // numbers are written back.
+#![tactic(auto)]
+
 ghost use Rattle.std.specs.Prelude.{◌≡◌, length};
 ghost use Rattle.image.specs.Image.{image_size};
 ghost use Rattle.imaged_salvage.specs.Salvaged.{salvage_of, LeavesSalvage};
@@ -7,7 +9,7 @@ ghost use Rattle.imaged_salvage.specs.Salvaged.{salvage_of, LeavesSalvage};
 use parts::Answer;
 
 // What a salvage tells besides what it is lent: the refusal number or 0, the records kept, and the places cleared.
-#[derive(Drop)]
+#[derive(Clone, Copy)]
 pub struct Told {
     pub number: u32,
     pub kept: u64,

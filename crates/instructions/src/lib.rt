@@ -1,5 +1,7 @@
 // The instructions that act on the core and the variables alone. What such an instruction writes is found first, from the state as it
 // is, and then written. Each contract speaks of the whole machine, beside any stack.
+#![tactic(auto)]
+
 ghost use Rattle.std.specs.Prelude.{◌≡◌, ℕ, ◌≤◌, List};
 ghost use Rattle.rules.specs.Registers as state;
 ghost use Rattle.parts.specs.Whole.{whole};

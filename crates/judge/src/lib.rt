@@ -1,4 +1,6 @@
 // The tests 9 and 10, which come before everything else: lengths, and a sound state with its numbers in range.
+#![tactic(auto)]
+
 ghost use Rattle.std.specs.Prelude.{◌≡◌, ◌&&◌};
 ghost use Rattle.rules.specs.declared.Refusal.TheVariants.{BufferLength, Unsound};
 ghost use Rattle.rules.specs.Number.{unless};

@@ -1,4 +1,6 @@
 // A history's records, written. The specs of `rules`, Record.antt, say what a record is.
+#![tactic(auto)]
+
 ghost use Rattle.std.specs.Prelude.{◌≡◌, List, ℕ, ◌+◌, ◌-◌, ◌*◌, ◌≤◌, length, take, replicate};
 ghost use Rattle.keeping.specs.Writable.{blank, Reaches};
 ghost use Rattle.rules.specs.Memory.{over};

@@ -1,4 +1,6 @@
 // The lines of a trace, put into a buffer. Each function answers the index after its line.
+#![tactic(auto)]
+
 ghost use Rattle.std.specs.Prelude.{◌≡◌, ◌+◌, ◌≤◌, length};
 ghost use Rattle.text.specs.Put.{Put};
 ghost use Rattle.line.specs.Line.{header, step_line, stop_line};

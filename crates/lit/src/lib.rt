@@ -1,4 +1,6 @@
 // The number of lit spots: whether it stays in its range where a picture takes the place of another, and what it becomes.
+#![tactic(auto)]
+
 ghost use Rattle.std.specs.Prelude.{◌≡◌, List, ℕ, ◌+◌, ◌≤◌};
 ghost use Rattle.rules.specs.Refusal.{number};
 ghost use Rattle.rules.specs.Step.{lit_after, lit_refusal};

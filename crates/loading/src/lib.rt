@@ -1,4 +1,6 @@
 // A load: what it tests, what it leaves in memory, and the call.
+#![tactic(auto)]
+
 ghost use Rattle.std.specs.Prelude.{◌≡◌, ◌≤◌, length};
 ghost use Rattle.rules.specs.Refusal.{number};
 ghost use Rattle.rules.specs.Load.{load_refusal, loaded_memory};

@@ -1,4 +1,6 @@
 // Bytes laid into a buffer and cleared, numbers of eight bytes and of two, and the instructions that write and read memory: FX33, FX55 and FX65.
+#![tactic(auto)]
+
 ghost use Rattle.std.specs.Prelude.{◌≡◌, ◌++◌, ◌+◌, ◌-◌, ◌/◌, ◌%◌, ◌≤◌, ◌<◌, length, take, drop, replicate};
 ghost use Rattle.rules.specs.Memory.{over, digits_of};
 ghost use Rattle.rules.specs.Record.{word_at};

@@ -1,4 +1,6 @@
 // A step of a world that passed the tests 9 and 10: by its instruction it takes one of four ways, which have one promise.
+#![tactic(auto)]
+
 ghost use Rattle.rules.specs.World.{world};
 ghost use Rattle.rules.specs.Rows.{bytes_of};
 ghost use Rattle.rules.proofs.Ready.{Ready};

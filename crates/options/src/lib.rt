@@ -1,4 +1,6 @@
 // The words behind a program's name, and what they choose for every program alike.
+#![tactic(auto)]
+
 use rules::Machine;
 
 // Whether argument k is that word.

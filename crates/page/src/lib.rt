@@ -1,4 +1,6 @@
 // The page of variables as bytes: each is one line of one digit's pattern, or dark.
+#![tactic(auto)]
+
 ghost use Rattle.std.specs.Prelude.{◌≡◌, ◌<◌, length, set};
 ghost use Rattle.page.specs.Bytes as spec;
 

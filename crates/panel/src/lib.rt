@@ -1,4 +1,6 @@
 // The card's glass: the picture turned into the panel's dots, two by two for each spot. No dot is looked at by itself.
+#![tactic(auto)]
+
 ghost use Rattle.std.specs.Prelude.{◌≡◌, ◌+◌, ◌*◌, ◌/◌, ◌%◌, ◌<◌, get_or, length};
 ghost use Rattle.panel.specs.Panel.{twice, Doubles, Shows};
 ghost use Rattle.panel.specs.Bytes.{pair, Upper, Repeated, Doubled};

@@ -1,5 +1,7 @@
 // The parts that are handed about. Of a machine: the variables and the stack are arrays that are lent, so that no step copies them; the
 // rest is small, and goes by value. And what a call answers beside the buffers that it is lent, with the number of its outcome.
+#![tactic(auto)]
+
 ghost use Rattle.std.specs.Prelude.{◌≡◌, List, ℕ};
 ghost use Rattle.rules.specs.Record.{held_byte};
 ghost use Rattle.rules.specs.Refusal as refusal;
@@ -8,7 +10,7 @@ ghost use Rattle.parts.specs.Whole as spec;
 use rules::{Edition, Machine, Outcome, Refusal, Timers, Trail, Wait};
 
 // What a machine has besides its variables and its stack.
-#[derive(Drop)]
+#[derive(Clone, Copy)]
 pub struct Core {
     pub i: u16,
     pub pc: u16,
@@ -71,7 +73,7 @@ pub fn held_byte(w: Wait) -> u8
 // ---- what a call answers
 
 // What a call hands back beside the buffers: what came of it, the state, and the history's three numbers.
-#[derive(Drop)]
+#[derive(Clone, Copy)]
 pub struct Answer {
     pub outcome: Outcome,
     pub machine: Machine,
@@ -79,7 +81,7 @@ pub struct Answer {
 }
 
 // The same of a step, with the number of lit spots that its drawing darkened.
-#[derive(Drop)]
+#[derive(Clone, Copy)]
 pub struct Stepped {
     pub dark: usize,
     pub outcome: Outcome,
@@ -88,7 +90,7 @@ pub struct Stepped {
 }
 
 // The same of a run, with the number of accepted steps, the sum of what they darkened, and that of the bytes that their records keep.
-#[derive(Drop)]
+#[derive(Clone, Copy)]
 pub struct Ran {
     pub accepted: usize,
     pub dark: usize,

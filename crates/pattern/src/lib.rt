@@ -1,4 +1,6 @@
 // A pattern on rows: a byte of it laid into a row, and the spots of up to eight rows gathered in one number.
+#![tactic(auto)]
+
 ghost use Rattle.std.specs.Prelude.{◌≡◌, ◌<◌};
 ghost use Rattle.std.specs.Int.Bits.{bit_or};
 ghost use Rattle.pattern.specs.Masks.{mask_of, rolled};

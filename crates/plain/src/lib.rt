@@ -1,5 +1,7 @@
 // The plain engine: a machine with no history and one byte for each spot, there to be read. Its run is a run of the card's rules, told without a
 // history (specs/Gone.antt); that it equals the first engine's, beside any history, is claimed in specs/Equal.antt.
+#![tactic(auto)]
+
 ghost use Rattle.std.specs.Prelude.{◌≡◌, true, ◌&&◌, List, ℕ, eqb, length};
 ghost use Rattle.rules.specs.declared.Outcome.TheVariants.{Done};
 ghost use Rattle.rules.specs.declared.Refusal.TheVariants.{BufferLength, Unsound};
@@ -17,7 +19,7 @@ use plain_step::Stepped;
 use rules::{Machine, Outcome};
 
 // What a run answers: how many steps were accepted, what ended it, and the machine after it.
-#[derive(Drop)]
+#[derive(Clone, Copy)]
 pub struct Ran {
     pub accepted: usize,
     pub outcome: Outcome,

@@ -7,6 +7,8 @@
 //
 // A function takes the machine and gives it back as the instruction leaves it. What it `requires` was tested before: an instruction is judged
 // first, and only one that can be done is done.
+#![tactic(auto)]
+
 ghost use Rattle.std.specs.Prelude.{◌≡◌, ℕ, ◌+◌, ◌<◌, ◌≤◌, List, ◌++◌, length, take, drop, replicate, nat_lt};
 ghost use Rattle.rules.specs.Number.{pick};
 ghost use Rattle.rules.specs.State.{picture_size, reg, up_to, with_reg, with_v, with_i, with_wait, with_lit};

@@ -1,5 +1,7 @@
 // A step of the plain engine: the two bytes at PC are looked up in the table, and the line is carried out, or refused. A line that needs
 // something is tested for it first, so a step is done whole or not at all.
+#![tactic(auto)]
+
 ghost use Rattle.std.specs.Prelude.{◌≡◌, ℕ, ◌-◌, ◌≤◌, length};
 ghost use Rattle.rules.specs.State.{memory_size, with_wait, with_timers};
 ghost use Rattle.rules.specs.Memory.{part};
@@ -14,7 +16,7 @@ ghost use Rattle.plain_step.specs.Does.{board_on, Playable, Leaves, own_of, done
 use rules::{Machine, Op, Outcome, Refusal, Simple, Timers};
 
 // What came of a step, and the machine after it.
-#[derive(Drop)]
+#[derive(Clone, Copy)]
 pub struct Stepped {
     pub outcome: Outcome,
     pub machine: Machine,

@@ -1,5 +1,7 @@
 // Which line of the manual's Table I two bytes are. The tests stand in the table's order, one after the other: read them beside the table. What no
 // line names is an unlisted instruction, and the card refuses it.
+#![tactic(auto)]
+
 ghost use Rattle.std.specs.Prelude.{◌≡◌, eqb};
 ghost use Rattle.rules.specs.Number.{pick};
 ghost use Rattle.rules.specs.Instruction.{in_second, sum_op, key_op};

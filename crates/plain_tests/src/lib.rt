@@ -1,5 +1,7 @@
 // What a line of the plain engine is tested for before it is carried out, where a test is more than a comparison: its bytes of memory, and the
 // number of lit spots.
+#![tactic(auto)]
+
 ghost use Rattle.std.specs.Prelude.{◌≡◌, List, ℕ, ◌≤◌, leb};
 ghost use Rattle.rules.specs.Number.{pick};
 ghost use Rattle.rules.specs.Picture.{lit_spots};

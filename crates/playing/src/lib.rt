@@ -1,4 +1,6 @@
 // A play, move by move.
+#![tactic(auto)]
+
 ghost use Rattle.std.specs.Prelude.{◌≡◌, true};
 ghost use Rattle.rules.specs.World.{world};
 ghost use Rattle.rules.specs.Run.{unrefused, lists_fit, all_moves, move_of, moves_of, made, play_from};

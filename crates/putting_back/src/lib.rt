@@ -1,4 +1,6 @@
 // The old bytes of a record, put back where they stood; and what that would turn over in the picture, asked before anything is written.
+#![tactic(auto)]
+
 ghost use Rattle.std.specs.Prelude.{◌≡◌, ◌≤◌, length};
 ghost use Rattle.rules.specs.State.{memory_size};
 ghost use Rattle.rules.specs.Record.{place_size, memory_at, picture_at};

@@ -1,6 +1,8 @@
 // A part of the state read or changed, and the instructions that call, return, or wait for a key. The variables and the stack are lent;
 // the rest of the state is taken by value and handed back. Each contract speaks of the whole machine, beside any stack or any variables
 // that the function is not lent.
+#![tactic(auto)]
+
 ghost use Rattle.std.specs.Prelude.{◌≡◌, List, ℕ, ◌≤◌, ◌<◌, ◌%◌, get_or};
 ghost use Rattle.rules.specs.Number.{pick};
 ghost use Rattle.rules.specs.State.{up_to, with_reg, with_i, with_wait, with_lit};

@@ -1,5 +1,7 @@
 // A step back: the last record is read, and what it holds is put back. Nothing is written before the record is known to be whole, and the
 // number of lit spots to stay in its range.
+#![tactic(auto)]
+
 ghost use Rattle.rules.specs.World.{world, places};
 ghost use Rattle.rules.specs.Call as rule;
 ghost use Rattle.rules.specs.Promise.{Gives};

@@ -1,30 +1,32 @@
 // The types that the rules of the card speak of. What the rules say is in specs/, read in the order of its Lib.antt.
+#![tactic(auto)]
+
 ghost use Rattle.std.specs.Prelude.{◌≡◌};
 ghost use Rattle.rules.specs.State as state;
 
 // The delay timer and the tone timer.
-#[derive(Drop)]
+#[derive(Clone, Copy)]
 pub struct Timers {
     pub delay: u8,
     pub tone: u8,
 }
 
 // What FX0A waits for: no key yet, or the release of the key that is held.
-#[derive(Drop)]
+#[derive(Clone, Copy)]
 pub enum Wait {
     Idle,
     Held(u8),
 }
 
 // The edition of the instruction set: the second has four operations more.
-#[derive(Drop)]
+#[derive(Clone, Copy)]
 pub enum Edition {
     First,
     Second,
 }
 
 // The machine's state, with the edition and the end of memory that a load chose and the number of lit spots of the picture.
-#[derive(Drop)]
+#[derive(Clone, Copy)]
 pub struct Machine {
     pub v: [u8; 16],
     pub i: u16,
@@ -79,7 +81,7 @@ impl Machine {
 
 // The three numbers that go with a history: the place to write next, how many places behind it are kept, and how many actions that
 // were taken back still stand ahead, from that place on.
-#[derive(Drop)]
+#[derive(Clone, Copy)]
 pub struct Trail {
     pub next: usize,
     pub kept: usize,
@@ -87,14 +89,14 @@ pub struct Trail {
 }
 
 // An action with its inputs: a step with its key bits and its random byte, or a tick.
-#[derive(Drop)]
+#[derive(Clone, Copy)]
 pub enum Action {
     Step(u16, u8),
     Tick,
 }
 
 // What an action changes besides the state: nothing, or memory or the picture, from a start on so many bytes.
-#[derive(Drop)]
+#[derive(Clone, Copy)]
 pub enum Change {
     Nothing,
     InMemory(u16, u16),
@@ -102,7 +104,7 @@ pub enum Change {
 }
 
 // An instruction that reads and changes the state alone, and is never refused. A register is named by its number, below 16.
-#[derive(Drop)]
+#[derive(Clone, Copy)]
 pub enum Simple {
     Jump(u16),
     JumpFrom(u16),
@@ -133,7 +135,7 @@ pub enum Simple {
 }
 
 // An instruction, taken apart. The last two are what no rule lists: an unlisted instruction, and a call into machine language.
-#[derive(Drop)]
+#[derive(Clone, Copy)]
 pub enum Op {
     Plain(Simple),
     AwaitKey(u8),
@@ -149,7 +151,7 @@ pub enum Op {
 }
 
 // Why a call is refused, in the order of the refusal numbers, 1 to 12.
-#[derive(Drop)]
+#[derive(Clone, Copy)]
 pub enum Refusal {
     PcPastEnd,
     Unlisted,
@@ -166,7 +168,7 @@ pub enum Refusal {
 }
 
 // What came of a call.
-#[derive(Drop)]
+#[derive(Clone, Copy)]
 pub enum Outcome {
     Done,
     Refused(Refusal),

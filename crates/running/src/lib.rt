@@ -1,4 +1,6 @@
 // A run, entry by entry. The variables and the stack are two locals of the run, lent to each step, so a step copies neither.
+#![tactic(auto)]
+
 ghost use Rattle.std.specs.Prelude.{◌≡◌, true, ◌+◌, ◌*◌, ◌^◌, ◌≤◌, ◌<◌};
 ghost use Rattle.rules.specs.World.{world};
 ghost use Rattle.rules.specs.Run.{run_from, total_from, lists_fit};

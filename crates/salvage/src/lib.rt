@@ -1,5 +1,7 @@
 // The salvage of a worn history: the longest row of sound records stays, and every other place is cleared and told of. The specs say what is
 // right.
+#![tactic(auto)]
+
 ghost use Rattle.std.specs.Prelude.{◌≡◌};
 ghost use Rattle.salvage.specs.Salvage as spec;
 ghost use Rattle.salvage.specs.Promise.{GivesSalvage};
@@ -7,7 +9,7 @@ ghost use Rattle.salvage.specs.Promise.{GivesSalvage};
 use rules::{Machine, Outcome, Trail};
 
 // What came of a salvage: the records kept, the places cleared, and the numbers that go with the history now.
-#[derive(Drop)]
+#[derive(Clone, Copy)]
 pub struct Salvaged {
     pub outcome: Outcome,
     pub kept: usize,

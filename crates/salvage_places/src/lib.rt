@@ -1,4 +1,6 @@
 // The places of a history, seen from next: those that hold none of its newest records are cleared, and listed. The specs say what is right.
+#![tactic(auto)]
+
 ghost use Rattle.std.specs.Prelude.{◌≡◌, ◌+◌, ◌*◌, ◌≤◌, ◌<◌, length};
 ghost use Rattle.rules.specs.Number.{pick};
 ghost use Rattle.rules.specs.Record.{place_size};

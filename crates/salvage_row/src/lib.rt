@@ -1,4 +1,6 @@
 // The longest unbroken row of sound records in a history, from the newest backwards. The specs say what is right.
+#![tactic(auto)]
+
 ghost use Rattle.std.specs.Prelude.{◌≡◌, ◌<◌};
 ghost use Rattle.rules.specs.World as fit;
 ghost use Rattle.salvage_row.specs.Row as rule;

@@ -2,6 +2,8 @@
 // the card's glass then shows, in block characters: the game's own picture, and beside it, where --variables is handed in, the page of its
 // variables. It is loaded for the second edition, which runs what the first runs and four operations more, or where --first is handed in for
 // the first; where --2k is, memory ends at 1,696. The last two lines say how many spots are lit, why it stopped, and where.
+#![tactic(auto)]
+
 mod blocks;
 
 use parts::Ran;

@@ -1,4 +1,6 @@
 // Whether a state is sound, and the end of memory that a load hands back.
+#![tactic(auto)]
+
 ghost use Rattle.std.specs.Prelude.{◌≡◌, ◌≤◌, drop};
 ghost use Rattle.rules.specs.State as state;
 ghost use Rattle.rules.specs.Typed.{TypedMachine};

@@ -1,5 +1,7 @@
 // The picture as the plain engine has it: 2,048 spots, one byte for each, 0 dark and 1 lit. Spot 0 is the upper left corner, spot 63 ends the
 // top row, spot 64 begins the row beneath it: the spot in column x of row y has the number 64 * y + x. Everything here is done spot by spot.
+#![tactic(auto)]
+
 ghost use Rattle.std.specs.Prelude.{◌≡◌, ◌+◌, ◌/◌, ◌%◌, ◌≤◌, ◌<◌, min, replicate};
 ghost use Rattle.std.specs.Int.Bits.{differ};
 ghost use Rattle.rules.specs.State.{picture_size, spot_count};

@@ -1,4 +1,6 @@
 // The stepper's dock: a page of the variables, drawn afresh from a state, and the switch that shows it or the game's own picture.
+#![tactic(auto)]
+
 ghost use Rattle.std.specs.Prelude.{◌≡◌};
 ghost use Rattle.rules.specs.Refusal.{number};
 ghost use Rattle.stepper.specs.Dock as dock;
@@ -24,7 +26,7 @@ pub fn draw(machine: Machine, page: &mut [u8]) -> Outcome
 // ---- the showing
 
 // What the dock shows.
-#[derive(Drop)]
+#[derive(Clone, Copy)]
 pub enum Switch {
     Game,
     Variables,

@@ -1,4 +1,6 @@
 // Text that the programs write, put into a buffer of the caller's. Each function answers the index after what it put, where the next goes on.
+#![tactic(auto)]
+
 ghost use Rattle.std.specs.Prelude.{◌≡◌, ◌∷◌, ◌+◌, ◌%◌, ◌≤◌, ◌<◌, length, drop};
 ghost use Rattle.text.specs.Put.{Put};
 ghost use Rattle.text.specs.Text.{space, glyph_of, hex_of, wide_hex_of, decimal_of};

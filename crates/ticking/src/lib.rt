@@ -1,4 +1,6 @@
 // A tick of a world that passed the tests 9 and 10.
+#![tactic(auto)]
+
 ghost use Rattle.std.specs.Prelude.{List, ℕ};
 ghost use Rattle.rules.specs.declared.Outcome.TheVariants.{Done};
 ghost use Rattle.rules.specs.World.{world};
@@ -12,7 +14,7 @@ use parts::Core;
 use rules::{Action, Machine, Trail};
 
 // What ticks hand back beside what is lent: the core, and the history's numbers.
-#[derive(Drop)]
+#[derive(Clone, Copy)]
 pub struct Moved {
     pub core: Core,
     pub trail: Trail,

@@ -1,5 +1,7 @@
 // Reads a program from standard input and writes its trace to standard output. It is loaded for the first edition, and for the second where
 // --second is handed in; memory ends at 4,096, and at 1,696, as the 2K profile has it, where --2k is.
+#![tactic(auto)]
+
 mod steps;
 
 use rules::{Edition, Machine};

@@ -1,4 +1,6 @@
 // The history's three numbers, next, kept and ahead, counted on and counted back.
+#![tactic(auto)]
+
 ghost use Rattle.std.specs.Prelude.{◌≡◌, ◌+◌, ◌≤◌, ◌<◌, eqb};
 ghost use Rattle.rules.specs.Number.{pick};
 ghost use Rattle.rules.specs.Call as rule;

@@ -1,4 +1,6 @@
 // What an instruction changes besides the state, and the instructions that read or change memory or the picture.
+#![tactic(auto)]
+
 ghost use Rattle.std.specs.Prelude.{◌≡◌, List, ◌++◌, ℕ, ◌+◌, ◌*◌, ◌%◌, ◌≤◌, ◌<◌, eqb, ltb, length, get_or, take, drop, replicate};
 ghost use Rattle.rules.specs.declared.Wait.TheVariants.{Idle};
 ghost use Rattle.rules.specs.Number.{pick};
@@ -17,7 +19,7 @@ use picture::Spots;
 use rules::{Change, Machine, Op};
 
 // What an instruction hands back: the core, and how many lit spots went dark.
-#[derive(Drop)]
+#[derive(Clone, Copy)]
 pub struct Acted {
     pub core: Core,
     pub dark: usize,

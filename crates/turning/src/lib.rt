@@ -1,4 +1,6 @@
 // The picture's two forms, turned into each other: bytes for the panel and for whoever keeps a picture, rows for the calls that work on it.
+#![tactic(auto)]
+
 ghost use Rattle.std.specs.Prelude.{◌≡◌, length};
 ghost use Rattle.rules.specs.Refusal.{number};
 ghost use Rattle.rules.specs.Rows.{rows_of};

@@ -1,4 +1,6 @@
 // What an instruction needs: the last refusals that there can be, before anything is written.
+#![tactic(auto)]
+
 ghost use Rattle.std.specs.Prelude.{◌≡◌, List, ℕ, ◌≤◌, ◌<◌, length};
 ghost use Rattle.rules.specs.declared.Machine as machine;
 ghost use Rattle.rules.specs.Number.{or_later};

@@ -1,5 +1,7 @@
 // What a step of a tested world promises, and three of its four ways: of an instruction on the state alone, of a quiet one, and of any other
 // that is no drawing. Each is judged if it can be refused, then its record is kept, then it acts.
+#![tactic(auto)]
+
 ghost use Rattle.std.specs.Prelude.{◌≡◌};
 ghost use Rattle.rules.specs.World.{world};
 ghost use Rattle.rules.specs.Rows.{bytes_of};
@@ -14,7 +16,7 @@ use rules::{Action, Machine, Op, Outcome, Trail};
 
 // What a step hands back beside what is lent: what came of it, the core, the history's numbers, the number of lit spots that it darkened,
 // and how many bytes its record keeps.
-#[derive(Drop)]
+#[derive(Clone, Copy)]
 pub struct Stepped {
     pub outcome: Outcome,
     pub core: Core,
