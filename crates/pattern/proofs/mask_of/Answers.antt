@@ -3,11 +3,7 @@ use mathlib.Core.Path.{ap}
 use Prim.Native.Nat.{ℕ, ◌/◌, ◌^◌}
 use native.Mathlib.Nat.{mod-eq_of_lt}
 use native.Mathlib.Omega.{arith}
-use Rattle.pattern.proofs.mask_of.Statement.{statement}
-use Rattle.pattern.proofs.mask_of.Tie as tie
+use Rattle.pattern.proofs.mask_of.Goals as goal
 
-returns : tie.Need-returns
+pub returns : goal.returns
 returns c = ap (λ (n : ℕ). n / 2 ^ c.args.column) (mod-eq_of_lt (omega arith))
-
-pub mask_of_spec : {M : Type 1} → statement M
-mask_of_spec = tie.close (tie.spec (λ c. omega arith) returns)
