@@ -1,13 +1,12 @@
 -- Where kept passes R the sum does; else the sum is at most R exactly where ahead is at most what is left.
-use mathlib.Core.Path.{◌≡◌, refl, sym, ◌∙◌}
+use mathlib.Core.Path.{◌≡◌, refl, sym}
 use mathlib.Core.Bool.{Bool, true, false, and-false}
 use Prim.Native.Nat.{ℕ, ◌+◌, ◌-◌, ◌≤◌}
 use native.Mathlib.Omega.{arith}
 use lib.Dec.{leb, ltb}
 use borrow.Author.Tests.{leb-true, leb-false, le-leb, lt-leb}
 use Rattle.rules.specs.World.{places}
-use Rattle.fitting.proofs.trail_fits.Statement.{statement}
-use Rattle.fitting.proofs.trail_fits.Tie as tie
+use Rattle.fitting.proofs.trail_fits.Goals as goal
 
 beside : (kept ahead r : ℕ) → kept ≤ r → leb ahead (r - kept) ≡ leb (kept + ahead) r
 beside kept ahead r h = go (leb ahead (r - kept)) refl
@@ -16,18 +15,15 @@ beside kept ahead r h = go (leb ahead (r - kept)) refl
     go true e = sym (le-leb (kept + ahead) r (omega (arith, leb-true ahead (r - kept) e)))
     go false e = sym (lt-leb (kept + ahead) r (omega (arith, leb-false ahead (r - kept) e)))
 
-returns : tie.Need-returns
-returns c =
-    let a = c.before.before.before.before.args in
+pub returns-then-places-t : goal.returns-then-places-t
+returns-then-places-t c =
+    let a = c.args in
     let r = places a.history.now in
-    let past = lt-leb (a.t.kept + a.t.ahead) r (omega (arith, c.if1.true, c.before.before.places.ensures)) in
+    let past = lt-leb (a.t.kept + a.t.ahead) r (omega (arith, c.if-places-t.true, c.places-places.ensures)) in
     rw past (sym (and-false (ltb a.t.next r)))
 
-returns_2 : tie.Need-returns-2
-returns_2 c =
-    let test = c.before.before.before in
-    let t = test.before.before.before.before.args.t in
-    rw (← test.before.before.places.ensures, ← beside t.kept t.ahead _ test.if1.false)
-
-pub trail_fits_spec : {M : Type 1} → statement M
-trail_fits_spec = tie.close (tie.spec (λ c κs. tt) returns returns_2)
+pub returns : goal.returns
+returns c =
+    let test = c in
+    let t = test.args.t in
+    rw (← test.places-places.ensures, ← beside t.kept t.ahead _ test.if-places-t.false)
