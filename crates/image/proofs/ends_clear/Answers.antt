@@ -11,8 +11,7 @@ use lib.ListN.{drop, get_or, length}
 use Rattle.rules.specs.State.{zeros}
 use Rattle.rules.specs.Record.{word_at}
 use Rattle.rules.proofs.Zeros.{zeros_stop, zeros_on, zeros_end}
-use Rattle.image.proofs.ends_clear.Statement.{statement}
-use Rattle.image.proofs.ends_clear.Tie as tie
+use Rattle.image.proofs.ends_clear.Goals as goal
 
 two_bytes : (l : List ℕ) (k : ℕ) → k + 1 < length l → zeros (drop k l) ≡ (eqb (word_at l k) 0 && zeros (drop (k + 2) l))
 two_bytes l k h = first (ℕ_discrete (get_or l k 0) 0)
@@ -27,12 +26,9 @@ two_bytes l k h = first (ℕ_discrete (get_or l k 0) 0)
     first (yes e) = second e (ℕ_discrete (get_or l (k + 1) 0) 0)
     first (no e) = zeros_stop l k (omega arith) e ∙ rw (ne_eqb (word_at l k) 0 (λ z. e (omega arith)))
 
-returns : tie.Need-returns
+pub returns : goal.returns
 returns c =
-    let b = c.before.before.before.args.image.now in
+    let b = c.args.image.now in
     let last : zeros (drop 62 b) ≡ eqb (word_at b 62) 0 = rw (two_bytes b 62 (omega arith), zeros_end b 64 (omega arith)) (and-true (eqb (word_at b 62) 0)) in
-    rw (c.before.word_at_law.ensures, c.word-at2.ensures)
+    rw (c.word_at.ensures, c.word_at-2.ensures)
     (sym (two_bytes b 60 (omega arith) ∙ ap (λ (z : Bool). eqb (word_at b 60) 0 && z) last))
-
-pub ends_clear_spec : {M : Type 1} → statement M
-ends_clear_spec = tie.close (tie.spec (λ c κs. omega arith) (λ c κs. omega arith) returns)
