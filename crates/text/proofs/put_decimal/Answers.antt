@@ -4,9 +4,6 @@ use Rattle.text.proofs.put_decimal.Goals as goal
 
 pub returns : goal.returns
 returns c =
-    let put = c in
-    let zeros = put in
-    let digits = zeros in
-    let n = digits.args.n in
-    digits_put n zeros.zeros_before-first.result digits.glyph.ensures digits.glyph-2.ensures digits.glyph-3.ensures
-    zeros.zeros_before-first.ensures.n_value zeros.zeros_before-first.ensures.upper_bound put.put.ensures
+    let zeros = c.zeros_before-first in
+    let r = digits_put c.args.n zeros.result c.glyph.ensures c.glyph-2.ensures c.glyph-3.ensures zeros.ensures.n_value zeros.ensures.upper_bound c.put.ensures in
+    record { put = r.0; upper_bound = r.1 }
