@@ -1,5 +1,5 @@
 -- The worked cases of Q-7, the button with two ends: walks over a short history, and one statement that each of them goes so.
-use Rattle.std.specs.Prelude.{Bool, true, ◌&&◌, List, [], ◌∷◌, ◌++◌, ℕ, ◌+◌, ◌*◌, replicate, T, eqb}
+use Rattle.std.specs.Prelude.{Bool, true, ◌&&◌, List, [], ◌∷◌, ℕ, ◌*◌, replicate, T, eqb}
 use Rattle.rules.specs.declared.Edition.TheVariants.{First}
 use Rattle.rules.specs.Number.{same}
 use Rattle.rules.specs.State.{memory_size, picture_size, start_address, fresh, reg}

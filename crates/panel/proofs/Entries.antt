@@ -1,5 +1,5 @@
 -- A rule of a table, proved at all of its entries by one test that the checker computes, one entry after the other; so the table doubles.
-use mathlib.Core.Path.{◌≡◌, ◌∙◌, subst, sym}
+use mathlib.Core.Path.{◌≡◌}
 use mathlib.Core.Bool.{Bool, true, false, ◌&&◌}
 use mathlib.Core.List.{List, [], ◌∷◌}
 use Prim.Native.Nat.{ℕ, zero, suc, ◌+◌, ◌<◌}
