@@ -1,7 +1,7 @@
 -- The row by its records, newest first: without the newest, each record stands beside the depth that it stood beside before. So the row is
 -- the longest, and a history that holds its records has the same row.
 use mathlib.Core.Path.{◌≡◌, refl, sym, ap, ap₂, ◌∙◌}
-use mathlib.Core.Bool.{Bool, true, false, false≢true}
+use mathlib.Core.Bool.{true, false}
 use mathlib.Core.List.{List}
 use Prim.Native.Nat.{ℕ, zero, suc, ◌+◌, ◌-◌, ◌≤◌, ◌<◌}
 use native.Mathlib.Nat.{suc-le-suc_iff}
