@@ -104,7 +104,7 @@ below_card() {
             say "$name"
             sed -n "s/^$name\( staticlib\)*: *//p" "$repository/crates.txt" | tr ' ' '\n'
         done | sort -u | while IFS= read -r name; do
-            [ ! -d "$repository/crates/$name" ] || say "$name"
+            [ -z "$name" ] || [ ! -d "$repository/crates/$name" ] || say "$name"
         done)
         [ "$below" != "$were" ]
     do :; done
