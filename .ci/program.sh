@@ -52,59 +52,41 @@ find_toolchain
 
 # ---- the program, proved or not
 
-built=$root/target/bin/$program
+built=$root/crates/$program/out/$program
 
 # The crates that the program is made of, found in as many turns as they lie deep.
 crates=$program
-for _ in 1 2 3 4 5 6 7 8; do
-    crates=$(for c in $crates; do echo "$c"; sed -n "s/^$c: *//p" "$root/crates.txt" | tr ' ' '\n'; done | sort -u)
-done
+while
+    were=$crates
+    crates=$(for c in $were; do echo "$c"; sed -n "s/^$c: *//p" "$root/crates.txt" | tr ' ' '\n'; done | sort -u)
+    [ "$crates" != "$were" ]
+do :; done
 
 # Whether the proved program is there, and no file that it was made of is newer.
 current() {
     [ -x "$built" ] || return 1
     for c in $crates; do
-        [ ! -d "$root/crates/$c" ] || [ -z "$(find "$root/crates/$c" -newer "$built" -type f | head -n 1)" ] || return 1
+        [ ! -d "$root/crates/$c" ] || [ -z "$(find "$root/crates/$c/" -name out -prune -o -newer "$built" -type f -print | head -n 1)" ] || return 1
     done
 }
 
-# A byte that rt names in hex, as \xE2, in octal, which every printf knows.
-octal() {
-    awk 'function digit(c) { return index("0123456789abcdef", c) - 1 }
-    {
-        while (match($0, /\\x[0-9a-f][0-9a-f]/)) {
-            n = 16 * digit(substr($0, RSTART + 2, 1)) + digit(substr($0, RSTART + 3, 1))
-            $0 = substr($0, 1, RSTART - 1) sprintf("\\0%03o", n) substr($0, RSTART + 4)
-        }
-        print
-    }'
-}
-
-# Runs a copy of the sources whose input is the file. rt runs a program without proof only to compare what it writes with what is
-# expected, and shows the next 200 bytes where there is more: so these are expected in the next turn, until nothing is missing.
+# What rt says of its own is shown only where the program did not run.
 run_unproved() {
     say "$script: the proved program is not built yet, so this runs the same source without proof. ./$script --prove proves it first"
-    trial=$work/crates/$program
-    { mkdir "$work/crates" && cp "$root/crates.txt" "$work/"; } || die "cannot copy the sources"
-    for crate in "$root"/crates/*; do [ "${crate##*/}" = "$program" ] || ln -s "$crate" "$work/crates/"; done
-    { mkdir "$trial" && cp -R "$root/crates/$program/src" "$trial/" && cp "$file" "$trial/stdin"; } || die "cannot copy the sources"
     # shellcheck disable=SC2086
-    [ -z "$words" ] || printf '%s\n' $words >"$trial/args"
-    : >"$trial/stdout"
-    until (cd "$work" && "$rt" try "$program") >"$work/said" 2>&1; do
-        more=$(sed -n 's/^on standard output, at byte [0-9]*, expected "", found "\([^"]*\)".*/\1/p' "$work/said" | head -n 1)
-        [ -n "$more" ] || { cat "$work/said" >&2; die "the program did not compile or run"; }
-        printf '%b' "$(printf '%s\n' "$more" | octal)" >"$work/more"
-        cat "$work/more" >>"$trial/stdout"
+    (cd "$root/crates/$program" && "$rt" try "$program" ${words:+-- $words} <"$file") 2>"$work/said" || {
         # Whoever reads may have gone, as head does.
-        cat "$work/more" 2>/dev/null || exit 141
-    done
+        status=$?
+        [ "$status" -ne 141 ] || exit 141
+        cat "$work/said" >&2
+        die "the program did not compile or run"
+    }
 }
 
 if [ "$prove" = yes ] && ! current; then
     say "$script: proving the machine and the program: some minutes from nothing, less where a part is proved already"
-    { (cd "$root" && "$rt" check "$program") 2>&1; echo $? >"$work/ended"; } | grep --line-buffered '^rt: ' >&2
-    [ "$(cat "$work/ended")" = 0 ] || die "it is not proved: 'rt check $program' says why"
+    { (cd "$root/crates/$program" && "$rt" run </dev/null) 2>&1 >"$work/ran"; echo $? >"$work/ended"; } | grep --line-buffered '^rt: ' >&2
+    [ "$(cat "$work/ended")" = 0 ] || die "it is not proved: 'rt run' in crates/$program says why"
     touch "$built"
 fi
 # shellcheck disable=SC2086

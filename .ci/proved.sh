@@ -5,13 +5,11 @@ script=${0##*/}
 say() { printf '%s\n' "$*" >&2; }
 die() { say "$script: $*"; exit 2; }
 
-# Sets rt, the toolchain's command, and tools, the kit's folder for this machine.
+# Sets rt, the toolchain's command, and tools, the kit's folder of compilers.
 find_toolchain() {
     rt=$(command -v rt 2>/dev/null) || rt=${RATTLE_HOME:+$RATTLE_HOME/bin/rt}
     { [ -n "$rt" ] && [ -x "$rt" ]; } || die "the Rattle toolchain is not here: its command, rt, must be on the PATH, or RATTLE_HOME be the folder of the kit"
-    kit=$(dirname "$("$rt" doc)")
-    kit=${RATTLE_HOME:-$(cd "$kit/.." && pwd)}
-    tools=$kit/on/$(uname -m)/toolchain
+    tools=$(dirname "$("$rt" doc)")/toolchain
 }
 
 # Programs are for x86-64. On another machine the kit brings an emulator, and else one must be installed.
@@ -28,10 +26,10 @@ find_emulator() {
     fi
 }
 
-# The proved program stands in target/bin, where rt check and rt ci put it.
+# The proved program stands in the out/ of its crate, where rt run and rt ci put it.
 run_proved() { # PROGRAM FILE [WORDS]
     find_emulator
-    binary=$root/target/bin/$1
+    binary=$root/crates/$1/out/$1
     input=$2
     shift 2
     loader=$tools/lib/ld-linux-x86-64.so.2

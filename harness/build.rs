@@ -1,4 +1,4 @@
-//! Links the card's archive: $CARD_ARCHIVE, or target/staticlib/libcard.a of
+//! Links the card's archive: $CARD_ARCHIVE, or crates/card/out/libcard.a of
 //! the repository.
 
 use std::env;
@@ -28,7 +28,7 @@ fn archive() -> PathBuf {
         Some(named) => PathBuf::from(named),
         None => {
             let package = env::var_os("CARGO_MANIFEST_DIR").expect("Cargo sets it");
-            Path::new(&package).join("../target/staticlib/libcard.a")
+            Path::new(&package).join("../crates/card/out/libcard.a")
         }
     }
 }

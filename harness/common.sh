@@ -13,6 +13,7 @@ fail() {
     exit 1
 }
 
+repository=$(cd "$here/.." && pwd)
 target=x86_64-unknown-linux-gnu
 machine=$(uname -m)
 case $machine in
@@ -49,10 +50,10 @@ install_packages() {
 
 # Sets CARD_ARCHIVE to the whole path of the card's archive.
 need_archive() {
-    archive=${CARD_ARCHIVE:-$here/../target/staticlib/libcard.a}
+    archive=${CARD_ARCHIVE:-$here/../crates/card/out/libcard.a}
     [ -f "$archive" ] ||
         fail "the card's archive is missing: $archive" \
-            "(build it with rt staticlib card, or name another in CARD_ARCHIVE)"
+            "(build it with rt lib in crates/card, or name another in CARD_ARCHIVE)"
     CARD_ARCHIVE=$(cd "$(dirname "$archive")" && pwd)/$(basename "$archive")
     export CARD_ARCHIVE
 }
@@ -60,7 +61,9 @@ need_archive() {
 # Sets kit to the toolchain's folder.
 find_kit() {
     has rt || fail "the Rattle toolchain's command rt is not on the PATH"
-    kit=$(dirname "$(dirname "$(rt doc)")")
+    kit=$(dirname "$(rt doc)")
+    tools=$kit/toolchain
+    [ -x "$tools/bin/clang" ] || fail "the toolchain in $kit has no clang for this machine"
 }
 
 # Links what a folder holds into another, but for what is there already.
@@ -70,44 +73,102 @@ link_rest() { # FROM TO
     done
 }
 
-# Makes FOLDER/kit: the toolchain with module-clang in the place of its clang. That
-# one leaves module.ll and words in kept, a folder that is named here.
-catching_kit() { # FOLDER
+# Makes FOLDER/toolchain: the kit's compilers with module-clang in the place of its
+# clang. That one leaves module.ll and words in kept, a folder that is named here.
+catching_tools() { # FOLDER
     find_kit
-    tools=on/$machine/toolchain
-    kept=$1/kit/$tools/bin
-    mkdir -p "$kept"
+    kept=$1/toolchain/bin
+    mkdir -p "$kept/own"
     cp "$here/module-clang" "$kept/clang"
-    ln -s "$kit/$tools/bin" "$kept/own"
-    for folder in "" on "on/$machine" "$tools" "$tools/bin"; do
-        link_rest "$kit/$folder" "$1/kit/$folder"
+    link_rest "$tools/bin" "$kept/own"
+    link_rest "$tools/bin" "$kept"
+    link_rest "$tools" "$1/toolchain"
+}
+
+# Makes FOLDER/kit: the kit with those compilers. rt takes the kit that its own
+# files stand in, so they are copied.
+catching_kit() { # FOLDER
+    catching_tools "$1/kit"
+    mkdir -p "$1/kit/bin"
+    cp "$kit/bin/rt" "$kit/bin/rtlib.py" "$1/kit/bin"
+    link_rest "$kit/bin" "$1/kit/bin"
+    link_rest "$kit" "$1/kit"
+}
+
+# The libraries of the house that the card stands on, each once.
+below_card() {
+    below=card
+    while
+        were=$below
+        below=$(for name in $were; do
+            say "$name"
+            sed -n "s/^$name\( staticlib\)*: *//p" "$repository/crates.txt" | tr ' ' '\n'
+        done | sort -u | while IFS= read -r name; do
+            [ -z "$name" ] || [ ! -d "$repository/crates/$name" ] || say "$name"
+        done)
+        [ "$below" != "$were" ]
+    do :; done
+    say "$below" | sed '/^card$/d'
+}
+
+# Proves the card over the libraries that stand built below it, and builds its
+# archive with these compilers: what rt lib does, which takes the kit's alone. Words
+# after ARCHIVE go to the compiler.
+build_card() { # TOOLCHAIN ARCHIVE WORDS..
+    find_kit
+    with=$1
+    to=$2
+    shift 2
+    set -- "$@" -L "dependency=$kit/rlibs"
+    for name in $(sed -n 's/^card staticlib: *//p' "$repository/crates.txt"); do
+        set -- "$@" --extern "$name=../$name/out/rlib/$name.rlib"
     done
+    for name in $(below_card); do
+        set -- "$@" -L "dependency=../$name/out/rlib"
+    done
+    (cd "$repository/crates/card" &&
+        "$kit/bin/rattle" build --crate-name card src/lib.rt --crate-type staticlib "$@" \
+            --antt-project "$kit/rattle/logic/antt-project.json" --logic-built "$kit/logic_built" \
+            --links card= --backend llvm --toolchain "$with" -o "$to")
+}
+
+# Keeps in target/module what module-clang left, with the archive that came of it.
+keep_module() { # ARCHIVE
+    module=$here/target/module
+    mkdir -p "$module"
+    rm -f "$module/made-of.a"
+    cp "$kept/module.ll" "$kept/words" "$module"
+    cp "$1" "$module/made-of.a"
 }
 
 # Compiles an LLVM module that was kept for another machine, to FOLDER/module.o:
 # with the words that the toolchain told its own clang, but for those that name
-# the machine. The module names its machine as well.
+# the machine, and fast also where those were for a first look. The module names
+# its machine as well, and takes an address as a number of 64 bits.
 compile_module() { # KEPT TRIPLE FOLDER
     triple=$2
     folder=$3
     find_kit
     sed -e "s/^target triple = .*/target triple = \"$triple\"/" \
         -e '/^target datalayout = /d' \
-        -e 's/"target-cpu"="x86-64"/"target-cpu"="generic"/' \
+        -e 's/"target-cpu"="[^"]*"/"target-cpu"="generic"/' \
+        -e 's/ "target-features"="[^"]*"//' \
+        -e 's/ = ptrtoaddr ptr / = ptrtoint ptr /' \
         "$1/module.ll" >"$folder/module.ll"
     exec 3<"$1/words"
     set --
     while IFS= read -r word <&3; do
         case $word in
         --target=*) word=--target=$triple ;;
-        -march=* | --sysroot=*) continue ;;
+        -march=* | --sysroot=* | -fsanitize=*) continue ;;
+        -O0) word=-O3 ;;
         *.bc) word=$folder/module.ll ;;
         *.o) word=$folder/module.o ;;
         esac
         set -- "$@" "$word"
     done
     exec 3<&-
-    "$kit/on/$machine/toolchain/bin/clang" "$@"
+    "$tools/bin/clang" "$@"
 }
 
 # Compiles a module that was kept, and links it, for WebAssembly.
@@ -115,7 +176,7 @@ link_wasm() { # KEPT WASM
     built=$(mktemp -d)
     compile_module "$1" wasm32-unknown-unknown "$built"
     # lld goes by the name that it is called by.
-    ln -s "$kit/on/$machine/toolchain/bin/ld.lld" "$built/wasm-ld"
+    ln -s "$(readlink -f "$tools/bin/ld.lld")" "$built/wasm-ld"
     "$built/wasm-ld" --no-entry --export-dynamic --stack-first --strip-all -o "$2" "$built/module.o"
     rm -r "$built"
 }

@@ -2,22 +2,25 @@
 #![tactic(auto)]
 
 use rules::Machine;
+use std::env::Env;
 
 // Whether argument k is that word.
-fn is_word(k: usize, word: &[u8]) -> bool {
+fn is_word(rt: &impl Env, k: usize, word: &[u8]) -> bool {
     let mut given = [0u8; 16];
-    let size = os::arg(k, &mut given);
-    check::same(&given[..size], word)
+    match rt.arg(k, &mut given) {
+        Ok(size) => check::same(&given[..size], word),
+        Err(_) => false,
+    }
 }
 
 // The same of one of the three arguments that there can be.
-pub fn has_option(word: &[u8]) -> bool {
-    is_word(1, word) | is_word(2, word) | is_word(3, word)
+pub fn has_option(rt: &impl Env, word: &[u8]) -> bool {
+    is_word(rt, 1, word) | is_word(rt, 2, word) | is_word(rt, 3, word)
 }
 
 // Where memory ends: at 1,696 where the 2K profile is asked for, and else at 4,096.
-pub fn end_of_memory() -> u16 {
-    if has_option(b"--2k") {
+pub fn end_of_memory(rt: &impl Env) -> u16 {
+    if has_option(rt, b"--2k") {
         return Machine::SMALL_END as u16;
     }
     Machine::MEMORY as u16

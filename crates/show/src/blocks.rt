@@ -3,6 +3,7 @@ ghost use Rattle.std.specs.Prelude.{◌+◌, ◌≤◌, ◌<◌, length};
 ghost use Rattle.io.specs.Counts.{IsPrefixLen};
 
 use chip8::Ran;
+use std::io;
 
 // A row of 64 characters of up to three bytes; and a line: a row, and beside it two spaces and another, and its end.
 const ROW: usize = 192;
@@ -87,14 +88,20 @@ fn put_line(
 }
 
 // Sixteen lines, from the top rows on.
-pub fn write(game: &[u8; 1024], variables: &[u8; 1024], beside: bool) {
+pub fn write(
+    rt: &impl Print,
+    game: &[u8; 1024],
+    variables: &[u8; 1024],
+    beside: bool,
+) -> io::Result<()> {
     let mut y = 0;
     while y < 16 {
         let mut line = [0u8; LINE];
         let end = put_line(&mut line, game, variables, beside, y);
-        io::write_all(1, &line[..end]);
+        rt.write_all(&line[..end])?;
         y += 1;
     }
+    Ok(())
 }
 
 fn put_stop(out: &mut [u8; 17], ran: Ran) -> usize
@@ -106,10 +113,10 @@ fn put_stop(out: &mut [u8; 17], ran: Ran) -> usize
 }
 
 // Why it stopped, and where.
-pub fn write_stop(ran: Ran) {
+pub fn write_stop(rt: &impl Print, ran: Ran) -> io::Result<()> {
     let mut out = [0u8; 17];
     let end = put_stop(&mut out, ran);
-    io::write_all(1, &out[..end]);
+    rt.write_all(&out[..end])
 }
 
 // How many of a number's four digits are zeros in front.
@@ -134,7 +141,7 @@ fn digit(n: u16, unit: u16) -> u8
 }
 
 // How many spots are lit, by the machine's own number.
-pub fn write_lit(lit: u16) {
+pub fn write_lit(rt: &impl Print, lit: u16) -> io::Result<()> {
     let digits = [
         digit(lit, 1000),
         digit(lit, 100),
@@ -143,6 +150,6 @@ pub fn write_lit(lit: u16) {
         b'\n',
     ];
     let first = zeros_before(lit);
-    io::write_all(1, b"lit ");
-    io::write_all(1, &digits[first..]);
+    rt.write_all(b"lit ")?;
+    rt.write_all(&digits[first..])
 }

@@ -8,10 +8,12 @@ mod blocks;
 
 use parts::Ran;
 use rules::{Edition, Machine};
+use std::env::Env;
+use std::io;
 use stepper::Switch;
 
-fn edition() -> Edition {
-    if options::has_option(b"--first") {
+fn edition(rt: &impl Env) -> Edition {
+    if options::has_option(rt, b"--first") {
         return Edition::First;
     }
     Edition::Second
@@ -54,13 +56,13 @@ fn glass_of<'a>(switch: Switch, picture: &'a [u8], page: &'a [u8]) -> [u8; 1024]
     glass
 }
 
-fn main() {
+fn main(rt: HostRuntime) -> io::Result<()> {
     let mut input = [0u8; Machine::TOO_LONG];
-    let size = io::read_full(0, &mut input);
+    let size = reading::read_full(&mut rt.stdin(), &mut input)?;
     let mut rows = [0u64; Machine::ROWS];
     let ran = run(
-        edition(),
-        options::end_of_memory(),
+        edition(&rt),
+        options::end_of_memory(&rt),
         &input[..size],
         &mut rows,
     );
@@ -71,7 +73,12 @@ fn main() {
     stepper::draw(machine, &mut page);
     let game = glass_of(Switch::Game, &picture, &page);
     let variables = glass_of(Switch::Variables, &picture, &page);
-    blocks::write(&game, &variables, options::has_option(b"--variables"));
-    blocks::write_lit(machine.lit);
-    blocks::write_stop(ran);
+    blocks::write(
+        &rt,
+        &game,
+        &variables,
+        options::has_option(&rt, b"--variables"),
+    )?;
+    blocks::write_lit(&rt, machine.lit)?;
+    blocks::write_stop(&rt, ran)
 }

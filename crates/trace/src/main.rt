@@ -5,23 +5,25 @@
 mod steps;
 
 use rules::{Edition, Machine};
+use std::env::Env;
+use std::io;
 
-fn edition() -> Edition {
-    if options::has_option(b"--second") {
+fn edition(rt: &impl Env) -> Edition {
+    if options::has_option(rt, b"--second") {
         return Edition::Second;
     }
     Edition::First
 }
 
-fn main() {
+fn main(rt: HostRuntime) -> io::Result<()> {
     let mut input = [0u8; Machine::TOO_LONG];
-    let size = io::read_full(0, &mut input);
+    let size = reading::read_full(&mut rt.stdin(), &mut input)?;
     let mut out = [0u8; 2048];
     let end = steps::put_trace(
         &mut out,
-        edition(),
-        options::end_of_memory(),
+        edition(&rt),
+        options::end_of_memory(&rt),
         &input[..size],
     );
-    io::write_all(1, &out[..end]);
+    rt.write_all(&out[..end])
 }

@@ -1,0 +1,19 @@
+-- The invariant: after i entries, what is still to be done from here gives the same answer.
+use mathlib.Core.Path.{◌≡◌}
+use Prim.Native.Nat.{◌-◌}
+use lib.ListN.{length}
+use Rattle.rules.specs.World.{world}
+use Rattle.rules.specs.Rows.{bytes_of}
+use Rattle.parts.specs.Whole.{whole}
+use Rattle.running.proofs.Entries.{Running}
+use Rattle.running.proofs.run_ready.Given as goal
+
+abbrev pub invariant-loop-i : goal.invariant-loop-i
+invariant-loop-i l =
+    (length l.memory ≡ length l.initial.memory)
+    × (length l.rows ≡ length l.initial.rows)
+    × (length l.history ≡ length l.initial.history)
+    × Running l.ticks l.keys l.randoms (world (whole l.initial.c l.initial.v l.initial.stack) l.initial.t l.initial.memory (bytes_of l.initial.rows) l.initial.history) (world (whole l.c l.v l.stack) l.t l.memory (bytes_of l.rows) l.history) l.i l.dark l.copied
+
+abbrev pub decreases-loop-i : goal.decreases-loop-i
+decreases-loop-i l = length l.ticks - l.i
