@@ -1,16 +1,14 @@
 -- An accepted salvage was handed a sound state and leaves numbers in range, so its image holds them whole; a refused one leaves the image.
-use mathlib.Core.Path.{◌≡◌, refl}
-use Prim.Native.Nat.{ℕ}
 use native.Mathlib.Omega.{arith}
 use borrow.Author.Tests.{ne_eqb}
 use Rattle.rules.proofs.Choices.{by_test}
-use Rattle.image.specs.Image.{machine_of, trail_of, Storable}
+use Rattle.image.specs.Image.{machine_of, trail_of}
 use Rattle.image.proofs.ReadsBack.{comes_back}
 use Rattle.imaged.proofs.Chains.{image_typed}
-use Rattle.salvage.specs.Salvage.{Salvage, salvage_refusal, salvaged, refused, salvage}
-use Rattle.salvage.proofs.Accepted.{Admitted, admitted}
+use Rattle.salvage.specs.Salvage.{salvage_refusal, salvaged, salvage}
+use Rattle.salvage.proofs.Accepted.{admitted}
 use Rattle.salvage.proofs.After.{row_few}
-use Rattle.imaged_salvage.specs.Salvaged.{salvage_of, Follows, SalvageChains}
+use Rattle.imaged_salvage.specs.Salvaged.{Follows, SalvageChains}
 
 pub salvage_chains : SalvageChains
 unfolding salvage

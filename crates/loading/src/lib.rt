@@ -13,6 +13,7 @@ use parts::Answer;
 use rules::{Edition, Machine, Outcome, Refusal, Trail};
 
 // 9, 10, then 8.
+#[tactic(auto, unfolding(rules::specs::Load::load_refusal))]
 fn judged(end: u16, program: &[u8], memory: &[u8], rows: &[u64], history: &[u8]) -> Outcome
     ensures { number result ≡ load_refusal end program.now memory.now (bytes_of rows.now) history.now }
 {

@@ -9,7 +9,7 @@ use Rattle.rules.specs.Number.{pick}
 use Rattle.rules.specs.State.{up_to}
 use Rattle.rules.specs.Step.{change_of, row}
 use Rattle.rules.specs.Record.{at_count, count, word_at}
-use Rattle.rules.specs.World.{World, world, board_of, buffers_fit, soundly}
+use Rattle.rules.specs.World.{World, board_of, buffers_fit, soundly}
 use Rattle.rules.specs.Call.{op_at, step_refusal, stepped, step, ticked, last_record}
 use Rattle.rules.specs.Run.{ticked_by, run_refusal, total, run}
 use Rattle.rules.specs.Typed.{TypedBoard}

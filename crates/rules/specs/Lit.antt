@@ -15,10 +15,10 @@ use Rattle.rules.specs.Picture.{spot, sum_from, lit_spots}
 use Rattle.rules.specs.Memory.{part}
 use Rattle.rules.specs.Record.{damaged, kind_sound, change_at, action_at}
 use Rattle.rules.specs.Step.{Board, change_of, picture_after}
-use Rattle.rules.specs.World.{World, world, board_of, buffers_fit, soundly}
+use Rattle.rules.specs.World.{World, board_of, buffers_fit, soundly}
 use Rattle.rules.specs.Load.{load}
-use Rattle.rules.specs.Call.{op_at, step_board, change_by, step, step_tests, step_own, step_refusal, stepped}
-use Rattle.rules.specs.Call.{back, back_refusal, last_record, undone, forward, forward_refusal, next_record, redone}
+use Rattle.rules.specs.Call.{op_at, step_board, change_by, step_tests, step_own, step_refusal, stepped}
+use Rattle.rules.specs.Call.{back_refusal, last_record, undone, forward_refusal, next_record, redone}
 use Rattle.rules.specs.Run.{run_refusal, run, play_refusal, play, EachCall}
 use Rattle.rules.specs.Typed.{Below, TypedBoard}
 
