@@ -21,7 +21,10 @@ returns c =
     let counted = c in
     let cleared = counted in
     let s = cleared in
-    let before = bytes_of s.args.rows.now in record { rows_after = cleared.clear.ensures; by_index = λ v stack.
+    let before = bytes_of s.args.rows.now in record {
+      rows_after = cleared.clear.ensures;
+      by_index = λ v stack.
           c.light.ensures v stack
           ∙ ap (with_lit counted.counted-lit.result) (c.idle.ensures v stack ∙ ap (with_wait Idle) (c.onward.ensures v stack))
-          ∙ ap (λ (n : ℕ). with_lit n (with_wait Idle (onward (whole s.args.c v stack)))) (counted.counted-lit.ensures before (zeroes 256) s.requires.4) }
+          ∙ ap (λ (n : ℕ). with_lit n (with_wait Idle (onward (whole s.args.c v stack)))) (counted.counted-lit.ensures before (zeroes 256) s.requires.4);
+    }

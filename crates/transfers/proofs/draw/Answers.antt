@@ -23,7 +23,12 @@ returns c =
     let s = drawing in
     let turned = drawing.draw-spots.ensures.turns in
     let balance = drawn_balance _ s.args.pattern.now _ _ (bytes_of s.args.rows.now) turned.dark turned.lit in
-    let number = counted.counted-lit.ensures _ _ balance in record { rows_after = drawing.draw-spots.ensures.rows_after; by_index = λ stack.
-            c.light.ensures _ stack
-            ∙ ap (with_lit counted.counted-lit.result) (c.idle.ensures _ stack ∙ ap (with_wait Idle) (c.put-flagged.ensures stack))
-            ∙ rw (c.flag.ensures, turned.dark, number); dark_value = (turned.dark, omega (arith, turned.few)); place_after = drawing.draw-spots.ensures.place_after }
+    let number = counted.counted-lit.ensures _ _ balance in record {
+      rows_after = drawing.draw-spots.ensures.rows_after;
+      by_index = λ stack.
+          c.light.ensures _ stack
+          ∙ ap (with_lit counted.counted-lit.result) (c.idle.ensures _ stack ∙ ap (with_wait Idle) (c.put-flagged.ensures stack))
+          ∙ rw (c.flag.ensures, turned.dark, number);
+      dark_value = (turned.dark, omega (arith, turned.few));
+      place_after = drawing.draw-spots.ensures.place_after;
+    }
