@@ -119,7 +119,7 @@ build_card() { # TOOLCHAIN ARCHIVE WORDS..
     with=$1
     to=$2
     shift 2
-    set -- "$@" -L "dependency=$kit/rlibs"
+    set -- "$@" --extern "std=$kit/rlibs/std.rlib" -L "dependency=$kit/rlibs"
     for name in $(sed -n 's/^card staticlib: *//p' "$repository/crates.txt"); do
         set -- "$@" --extern "$name=../$name/out/rlib/$name.rlib"
     done
