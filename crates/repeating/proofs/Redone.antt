@@ -1,6 +1,6 @@
 -- A step forward: what it gives where it is refused, by the tests 9 and 10 or behind them; and else it is its action with another number ahead.
 use mathlib.Core.Path.{◌≡◌, refl, sym, ap, ◌∙◌}
-use mathlib.Core.Bool.{Bool, true, false, not}
+use mathlib.Core.Bool.{true, false, not}
 use mathlib.Core.List.{List}
 use Prim.Native.Nat.{ℕ, ◌+◌, ◌-◌, ◌*◌}
 use lib.ListN.{take, drop}
@@ -18,7 +18,7 @@ use Rattle.rules.specs.Number.{unless}
 use Rattle.rules.specs.Record.{kind_sound, action_at}
 use Rattle.rules.specs.Refusal.{number}
 use Rattle.rules.specs.World.{World, Answer, with_ahead, board_of, buffers_fit, soundly, answered}
-use Rattle.rules.specs.Call.{own_refusal, acted, step, step_refusal, stepped, tick, ticked, next_record, forward_refusal, redone, forward}
+use Rattle.rules.specs.Call.{own_refusal, acted, step, stepped, ticked, next_record, forward_refusal, redone, forward}
 use Rattle.rules.specs.Promise.{Gives}
 use Rattle.rules.proofs.Choices.{by_test}
 use Rattle.rules.proofs.Parts.{lent_part}

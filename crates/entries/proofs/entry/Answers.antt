@@ -1,6 +1,5 @@
 -- The ticks, where there are any, lead to a world that is ready, and the step is made there.
 use mathlib.Core.Path.{◌≡◌, refl, subst}
-use mathlib.Core.Logic.{⊎_elim}
 use native.Mathlib.Omega.{arith}
 use lib.ListN.{length}
 use Rattle.rules.specs.World.{World, world}
@@ -25,8 +24,8 @@ there : (c : After-step-arg-5-1) → let s = c in
 there c =
     let s = c in
     elim c.if-ticks-gt0.branch [
-      then-ticks-gt0 w ↦ rw (w.core-is, w.t-is, w.history-is) (gives_world _ _ _ _ _ _ _ (w.ticks_of-ticked.ensures s.args.memory.now (bytes_of s.args.rows.now)))
-    | else-ticks-gt0 w ↦ let none : s.args.ticks ≡ 0 = omega (arith, w.if-ticks-gt0.false) in rw (w.core-is, w.t-is, w.history-is, none) refl
+      | then-ticks-gt0 w ↦ rw (w.core-is, w.t-is, w.history-is) (gives_world _ _ _ _ _ _ _ (w.ticks_of-ticked.ensures s.args.memory.now (bytes_of s.args.rows.now)))
+      | else-ticks-gt0 w ↦ let none : s.args.ticks ≡ 0 = omega (arith, w.if-ticks-gt0.false) in rw (w.core-is, w.t-is, w.history-is, none) refl
     ]
 
 as_long : (c : After-slice_known-6-1) → length c.if-ticks-gt0.history ≡ length c.args.history.now
@@ -44,8 +43,8 @@ there_2 : (c : After-slice_known-6-1) → let s = c in
 there_2 c =
     let s = c in
     elim c.if-ticks-gt0.branch [
-      then-ticks-gt0 w ↦ rw (w.core-is, w.t-is, w.history-is) (gives_world _ _ _ _ _ _ _ (w.ticks_of-ticked.ensures s.args.memory.now (bytes_of s.args.rows.now)))
-    | else-ticks-gt0 w ↦ let none : s.args.ticks ≡ 0 = omega (arith, w.if-ticks-gt0.false) in rw (w.core-is, w.t-is, w.history-is, none) refl
+      | then-ticks-gt0 w ↦ rw (w.core-is, w.t-is, w.history-is) (gives_world _ _ _ _ _ _ _ (w.ticks_of-ticked.ensures s.args.memory.now (bytes_of s.args.rows.now)))
+      | else-ticks-gt0 w ↦ let none : s.args.ticks ≡ 0 = omega (arith, w.if-ticks-gt0.false) in rw (w.core-is, w.t-is, w.history-is, none) refl
     ]
 
 pub ticks_of-ticked-requires : goal.ticks_of-ticked-requires

@@ -1,7 +1,6 @@
 -- Each way out is a law of the step forward: nothing ahead, damaged, or its action with one less ahead.
 use mathlib.Core.Path.{sym, ◌∙◌}
 use native.Mathlib.Omega.{arith}
-use borrow.Author.Tests.{not-true, not-false}
 use lib.ListN.{length-take, length-drop}
 use Rattle.rules.specs.World.{World, world}
 use Rattle.rules.specs.Rows.{bytes_of}

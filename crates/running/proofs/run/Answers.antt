@@ -45,9 +45,12 @@ returns c =
     let a = s.args in
     let says = rw c.lists_fit-lists.ensures at c.admitted-outcome.ensures.result_value in
     let passed : tests (given_3 s) (lists_fit a.ticks.now a.keys.now a.randoms.now) ≡ 0 = sym says ∙ ap number c.in-Done.is in
-    let ran = c.run_ready.ensures in record { gives_run = rw (run_admitted a.ticks.now a.keys.now a.randoms.now (given_3 s) passed) ran.gives_run; dark_value = (
+    let ran = c.run_ready.ensures in record {
+      gives_run = rw (run_admitted a.ticks.now a.keys.now a.randoms.now (given_3 s) passed) ran.gives_run;
+      dark_value = (
         rw (run_admitted_totals step_dark a.ticks.now a.keys.now a.randoms.now (given_3 s) passed) ran.dark_value.0,
         ran.dark_value.1,
         rw (run_admitted_totals step_copied a.ticks.now a.keys.now a.randoms.now (given_3 s) passed) ran.dark_value.2,
         ran.dark_value.3,
-      ) }
+      );
+    }
