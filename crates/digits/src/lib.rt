@@ -47,7 +47,7 @@ fn wide(x: u8) -> usize
     x as usize
 }
 
-// The byte of the digits at `at`. It is right for every table that passes the test `areDigits`.
+// The byte of the digits at `at`. It is right for every table that passes the test `are_digits`.
 fn digit_byte(at: usize, table: &[u8], starts: &[u8]) -> u8
     requires { (at / 5 < length starts.now) × (are_digits table.now 0 starts.now ≡ true) }
     ensures { result ≡ get_or digits at 0 }

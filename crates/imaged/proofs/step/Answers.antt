@@ -20,8 +20,8 @@ left_or_written : (c : After-accepted_by)
 left_or_written c =
     let says = c.number-n.ensures in
     elim c.if-n-eq0.branch [
-      then-n-eq0 w ↦ rw (eq-eqb _ 0 (sym says ∙ w.if-n-eq0.true)) (w.image-is ∙ w.write.ensures)
-    | else-n-eq0 w ↦ rw (ne_eqb _ 0 (λ z. w.if-n-eq0.false (says ∙ z))) w.image-is
+      | then-n-eq0 w ↦ rw (eq-eqb _ 0 (sym says ∙ w.if-n-eq0.true)) (w.image-is ∙ w.write.ensures)
+      | else-n-eq0 w ↦ rw (ne_eqb _ 0 (λ z. w.if-n-eq0.false (says ∙ z))) w.image-is
     ]
 
 pub shape_of-image : goal.shape_of-image
