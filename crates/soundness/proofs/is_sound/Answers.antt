@@ -1,52 +1,46 @@
 -- A depth above 12 is the first test that fails; else three of the others are the callees'. What a machine owns tells that its numbers are in
 -- range.
+use mathlib.Core.Path.{◌≡◌}
+use Prim.Native.Nat.{ℕ, ◌<◌}
 use mir.Val.{Fits}
 use mir.Syntax.{w8, w16}
-use lib.ListN.{get_or}
+use lib.ListN.{get_or, length}
 use borrow.Author.Rules.{rules}
 use borrow.Author.Tests.{le-leb, lt-leb}
+use Rattle.rules.specs.declared.Machine.{Machine}
+use Rattle.rules.specs.State.{stack_size}
 use Rattle.rules.specs.Typed.{TypedMachine}
 use Rattle.rules.proofs.Parts.{below_of}
-use Rattle.soundness.proofs.is_sound.Goals.{After-end_sound, Then-depth-gt-STACK}
 use Rattle.soundness.proofs.is_sound.Goals as goal
 
-typed : (c : Then-depth-gt-STACK) → TypedMachine c.args.m
-typed c =
-    let m = c.args.m in
-    record {
-      vs = search rules;
-      v = below_of m.v (λ i h. let f : Fits w8 (get_or m.v i 0) = search rules in f.fits);
-      i = search rules;
-      pc = search rules;
-      entries = search rules;
-      stack = below_of m.stack (λ i h. let f : Fits w16 (get_or m.stack i 0) = search rules in f.fits);
-      delay = search rules;
-      tone = search rules;
-      lit = search rules;
-      end = search rules;
-    }
-
-typed_2 : (c : After-end_sound) → TypedMachine c.args.m
-typed_2 c =
-    let m = c.args.m in
-    record {
-      vs = search rules;
-      v = below_of m.v (λ i h. let f : Fits w8 (get_or m.v i 0) = search rules in f.fits);
-      i = search rules;
-      pc = search rules;
-      entries = search rules;
-      stack = below_of m.stack (λ i h. let f : Fits w16 (get_or m.stack i 0) = search rules in f.fits);
-      delay = search rules;
-      tone = search rules;
-      lit = search rules;
-      end = search rules;
-    }
+-- the two lists by their elements, and the numbers as they are
+typed : (m : Machine)
+    → (length m.v ≡ 16) × (length m.stack ≡ stack_size)
+    → ((i : ℕ) → Fits w8 (get_or m.v i 0))
+    → ((i : ℕ) → Fits w16 (get_or m.stack i 0))
+    → (m.i < 65536) × (m.pc < 65536) × (m.timers.delay < 256) × (m.timers.tone < 256) × (m.lit < 65536) × (m.end < 65536)
+    → TypedMachine m
+typed m sized bytes words numbers = record {
+  vs = sized.0;
+  v = below_of m.v (λ i h. (bytes i).fits);
+  i = numbers.0;
+  pc = numbers.1;
+  entries = sized.1;
+  stack = below_of m.stack (λ i h. (words i).fits);
+  delay = numbers.2;
+  tone = numbers.3;
+  lit = numbers.4;
+  end = numbers.5;
+}
 
 pub returns-then-depth-gt-STACK : goal.returns-then-depth-gt-STACK
-returns-then-depth-gt-STACK c = record { value = rw (lt-leb _ 12 c.if-depth-gt-STACK.true); typed_machine = typed c }
+returns-then-depth-gt-STACK c = record {
+  value = rw (lt-leb _ 12 c.if-depth-gt-STACK.true);
+  typed_machine = typed c.args.m (search rules) (search rules) (search rules) (search rules);
+}
 
 pub returns : goal.returns
 returns c = record {
   value = rw (c.clear_from.ensures, c.held_sound.ensures, c.end_sound.ensures, le-leb _ 12 c.if-depth-gt-STACK.false);
-  typed_machine = typed_2 c;
+  typed_machine = typed c.args.m (search rules) (search rules) (search rules) (search rules);
 }
