@@ -11,8 +11,6 @@ returns-then-image-ne-IMAGE c =
 
 pub returns : goal.returns
 returns c =
-    let drawn = c in
-    let read = drawn in
-    let sized = eq-eqb _ _ read.if-image-ne-IMAGE.false in
-    let page = rw read.read-standing.ensures.0 at drawn.draw-outcome.ensures in
+    let sized = eq-eqb _ _ c.if-image-ne-IMAGE.false in
+    let page = rw c.read-standing.ensures.0 at c.draw-outcome.ensures in
     record { says = rw sized (c.number.ensures ∙ page.says); bytes = rw sized page.bytes; spots = λ e. page.spots (rw sized at e) }

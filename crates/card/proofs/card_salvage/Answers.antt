@@ -22,8 +22,5 @@ returns-then-answer-ne-ANSWER c = record {
 pub returns : goal.returns
 unfolding card_salvage
 returns c =
-    let put = c in
-    let call = put in
-    let answer = call in
-    let image = eq-eqb _ _ answer.if-image-ne-IMAGE.false in
-    let told = call.salvage-told.ensures in record { leaves_salvage = rw (image, eq-eqb _ _ answer.if-answer-ne-ANSWER.false) told.leaves_salvage; answer_after = rw (image, ← told.kept_value.0, ← told.kept_value.1) put.put_answer-2.ensures }
+    let image = eq-eqb _ _ c.if-image-ne-IMAGE.false in
+    let told = c.salvage-told.ensures in record { leaves_salvage = rw (image, eq-eqb _ _ c.if-answer-ne-ANSWER.false) told.leaves_salvage; answer_after = rw (image, ← told.kept_value.0, ← told.kept_value.1) c.put_answer-2.ensures }

@@ -20,16 +20,14 @@ returns c =
     let read = c.read-before.ensures in
     let played = rw (read.0, read.1) at c.play-answer.ensures in
     let after = c.after_list.ensures in
-    let known = c in
-    let start = known in
-    let a = start.args in
+    let a = c.args in
     let lent : Lent a.image.now a.memory.now (bytes_of a.rows.now) a.history.now =
     record {
-      size = start.requires;
-      image = below_of a.image.now (λ i h. (known.slice_known-1.given i).fits);
-      memory = below_of a.memory.now (λ i h. (known.slice_known-2-1.given i).fits);
+      size = c.requires;
+      image = below_of a.image.now (λ i h. (c.slice_known-1.given i).fits);
+      memory = below_of a.memory.now (λ i h. (c.slice_known-2-1.given i).fits);
       picture = bytes_below a.rows.now;
-      history = below_of a.history.now (λ i h. (known.slice_known-4-1.given i).fits);
+      history = below_of a.history.now (λ i h. (c.slice_known-4-1.given i).fits);
     } in
     let moves = a.moves.now in
     let keys = a.keys.now in

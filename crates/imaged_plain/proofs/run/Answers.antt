@@ -5,10 +5,9 @@ use Rattle.imaged_plain.proofs.run.Goals as goal
 
 pub returns : goal.returns
 returns c =
-    let s = c in
-    let a = s.args in
+    let a = c.args in
     let read = c.read-before.ensures in
     let ran = rw read.0 at c.run-ran.ensures in
     let after = rw read.1 at c.after_list-n.ensures in
     let bytes = below_of a.image.now (λ i h. (c.slice_known-1.given i).fits) in
-    record { leaves_plain = seen _ _ _ a.image.now _ _ s.requires bytes _ _ _ _ _ _ _ ran after.0 after.1; accepted_value = ran.accepted }
+    record { leaves_plain = seen _ _ _ a.image.now _ _ c.requires bytes _ _ _ _ _ _ _ ran after.0 after.1; accepted_value = ran.accepted }

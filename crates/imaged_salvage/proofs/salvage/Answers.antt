@@ -4,8 +4,5 @@ use Rattle.imaged_salvage.proofs.salvage.Goals as goal
 
 pub returns : goal.returns
 returns c =
-    let after = c in
-    let given = after in
-    let read = given in
-    let image = read.args.image.now in
-    let salvaged = rw (read.read-before.ensures.0, read.read-before.ensures.1) at given.salvage-salvaged.ensures in record { leaves_salvage = seen image _ _ _ _ _ _ salvaged after.after_call-n.ensures.0 (rw read.read-before.ensures.0 at after.after_call-n.ensures.1); kept_value = (salvaged.kept, salvaged.cleared) }
+    let image = c.args.image.now in
+    let salvaged = rw (c.read-before.ensures.0, c.read-before.ensures.1) at c.salvage-salvaged.ensures in record { leaves_salvage = seen image _ _ _ _ _ _ salvaged c.after_call-n.ensures.0 (rw c.read-before.ensures.0 at c.after_call-n.ensures.1); kept_value = (salvaged.kept, salvaged.cleared) }

@@ -5,8 +5,7 @@ use Rattle.plain.proofs.admitted.Goals as goal
 
 pub returns : goal.returns
 returns c =
-    let s = c in
-    let a = s.args in
+    let a = c.args in
     let says = rw (c.is_sound.ensures.value, c.are_spots.ensures) at c.tested.ensures in
     let bytes = below_of a.memory.now (λ i h. (c.type_inv.memory i).fits) in
     record { result_value = says; playable = playable a.m a.memory.now a.spots.now a.lists _ c.is_sound.ensures.typed_machine bytes says }

@@ -4,8 +4,7 @@ use Rattle.plain.proofs.entry.Goals as goal
 
 pub step-requires : goal.step-requires
 step-requires c =
-    let s = c in
-    ticked_playable s.args.ticks _ _ _ _ s.requires (c.ticks_of-ticked.ensures _ _)
+    ticked_playable c.args.ticks _ _ _ _ c.requires (c.ticks_of-ticked.ensures _ _)
 
 pub returns : goal.returns
 returns c = rw (← c.ticks_of-ticked.ensures c.args.memory.now c.args.spots.now) c.step.ensures

@@ -8,8 +8,7 @@ use Rattle.plain.proofs.run_entries.Goals as goal
 
 pub loop-i-init : goal.loop-i-init
 loop-i-init c =
-    let s = c in
-    (refl, refl, started _ _ _ _ _ _ (lists_same _ _ _ s.requires.1) s.requires.0)
+    (refl, refl, started _ _ _ _ _ _ (lists_same _ _ _ c.requires.1) c.requires.0)
 
 pub bounds-keys-i : goal.bounds-keys-i
 bounds-keys-i c = omega (arith, c.loop-i.invariant.2.lists.keys)
@@ -32,11 +31,10 @@ loop-i-smaller c = omega (arith, c.loop-i-test.true)
 pub loop-i-preserved : goal.loop-i-preserved
 loop-i-preserved c =
     let l = c.loop-i in
-    let e = c in
     -- a part that an entry was lent has the length that it had before
     let memory : length c.entry-stepped.new.memory ≡ length l.memory = search rules in
     let spots : length c.entry-stepped.new.spots ≡ length l.spots = search rules in
-    (memory ∙ l.invariant.0, spots ∙ l.invariant.1, went_on _ _ _ _ _ _ _ _ l.invariant.2 c.loop-i-test.true _ _ _ _ e.entry-stepped.ensures c.in-Done.is)
+    (memory ∙ l.invariant.0, spots ∙ l.invariant.1, went_on _ _ _ _ _ _ _ _ l.invariant.2 c.loop-i-test.true _ _ _ _ c.entry-stepped.ensures c.in-Done.is)
 
 pub shape_of-memory : goal.shape_of-memory
 shape_of-memory c = c.loop-i.invariant.0

@@ -30,26 +30,23 @@ stays_in_range-requires c = (c.lit.ensures.1, omega arith)
 pub returns-then-not-stays_in_range : goal.returns-then-not-stays_in_range
 returns-then-not-stays_in_range c =
     λ keys random.
-    let s = c in
     -- the late 10 is what the test found
     let late = c.stays_in_range.ensures _ (zeroes 256) c.lit.ensures.0 (sym lit_none) in
-    let says = out_of_range _ c.stays_in_range.result (own s.args.m s.args.memory.now s.args.spots.now _ late) c.if-not-stays_in_range.true in
-    rw c.refused.ensures (refused_by s.args.m s.args.memory.now s.args.spots.now s.requires.0 Clear keys random Unsound says)
+    let says = out_of_range _ c.stays_in_range.result (own c.args.m c.args.memory.now c.args.spots.now _ late) c.if-not-stays_in_range.true in
+    rw c.refused.ensures (refused_by c.args.m c.args.memory.now c.args.spots.now c.requires.0 Clear keys random Unsound says)
 
 pub erase-requires : goal.erase-requires
 erase-requires c =
-    let s = c in
     let late = c.stays_in_range.ensures _ (zeroes 256) c.lit.ensures.0 (sym lit_none) in
-    (s.requires.1, s.requires.0.are, in_range _ c.stays_in_range.result late c.if-not-stays_in_range.false)
+    (c.requires.1, c.requires.0.are, in_range _ c.stays_in_range.result late c.if-not-stays_in_range.false)
 
 pub returns : goal.returns
 unfolding after
 returns c =
     λ keys random.
-    let s = c in
     let erased = c.erase.ensures in
     let late = c.stays_in_range.ensures _ (zeroes 256) c.lit.ensures.0 (sym lit_none) in
-    let passes = in_range _ c.stays_in_range.result (own s.args.m s.args.memory.now s.args.spots.now _ late) c.if-not-stays_in_range.false in
+    let passes = in_range _ c.stays_in_range.result (own c.args.m c.args.memory.now c.args.spots.now _ late) c.if-not-stays_in_range.false in
     rw c.done.ensures
-    (done_by_law s.args.m s.args.memory.now s.args.spots.now s.requires.0 Clear keys random passes (ap (with_wait Idle) erased.0) refl
+    (done_by_law c.args.m c.args.memory.now c.args.spots.now c.requires.0 Clear keys random passes (ap (with_wait Idle) erased.0) refl
     erased.1 erased.2)

@@ -7,9 +7,8 @@ use Rattle.plain_step.proofs.pattern.Goals as goal
 
 pub slice_bounds-result-end-2 : goal.slice_bounds-result-end-2
 slice_bounds-result-end-2 c =
-    let s = c in
-    let fits : s.args.m.i + s.args.n ≤ 4096 = rw (ne_eqb _ _ c.if-count-eq0.false) at s.requires.0 in
-    omega (arith, fits, s.requires.1)
+    let fits : c.args.m.i + c.args.n ≤ 4096 = rw (ne_eqb _ _ c.if-count-eq0.false) at c.requires.0 in
+    omega (arith, fits, c.requires.1)
 
 pub returns : goal.returns
 returns c =

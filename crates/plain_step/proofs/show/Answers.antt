@@ -26,17 +26,15 @@ pub returns-then-not-in_memory : goal.returns-then-not-in_memory
 unfolding own_of refusal_of
 returns-then-not-in_memory c =
     λ keys random.
-    let s = c in
-    let a = s.args in
+    let a = c.args in
     rw c.refused.ensures
-    (refused_by a.m a.memory.now a.spots.now s.requires.0 (Draw a.x a.y a.n) keys random MemoryPastEnd
+    (refused_by a.m a.memory.now a.spots.now c.requires.0 (Draw a.x a.y a.n) keys random MemoryPastEnd
     (rw (past_end a.m a.n _ c.in_memory.ensures c.if-not-in_memory.true)))
 
 pub pattern-pattern-requires : goal.pattern-pattern-requires
 pattern-pattern-requires c =
-    let s = c in
-    let good = s.requires.0.good in
-    let below = (reaches s.args.m s.args.n _ c.in_memory.ensures c.if-not-in_memory.false).1 in
+    let good = c.requires.0.good in
+    let below = (reaches c.args.m c.args.n _ c.in_memory.ensures c.if-not-in_memory.false).1 in
     (omega (arith, below, good.machine.end.most), good.memory.size)
 
 pub lit_after-after-requires : goal.lit_after-after-requires
@@ -51,31 +49,28 @@ stays_in_range-requires c = (c.lit.ensures.1, c.lit_after-after.ensures.1)
 pub returns-then-not-stays_in_range : goal.returns-then-not-stays_in_range
 returns-then-not-stays_in_range c =
     λ keys random.
-    let s = c in
-    let a = s.args in
+    let a = c.args in
     -- the late 10 is what the test found
     let after = rw (c.v-2.ensures, c.v.ensures, c.pattern-pattern.ensures) at c.lit_after-after.ensures.0 in
     let late = c.stays_in_range.ensures _ _ c.lit.ensures.0 after in
     let says = out_of_range _ c.stays_in_range.result (own a.m a.x a.y a.n a.memory.now a.spots.now _ _ c.in_memory.ensures c.if-not-in_memory.false late) c.if-not-stays_in_range.true in
-    rw c.refused-then-not-stays_in_range.ensures (refused_by a.m a.memory.now a.spots.now s.requires.0 (Draw a.x a.y a.n) keys random Unsound says)
+    rw c.refused-then-not-stays_in_range.ensures (refused_by a.m a.memory.now a.spots.now c.requires.0 (Draw a.x a.y a.n) keys random Unsound says)
 
 pub show-requires : goal.show-requires
 show-requires c =
-    let s = c in
     let after = rw (c.v-2.ensures, c.v.ensures, c.pattern-pattern.ensures) at c.lit_after-after.ensures.0 in
     let late = c.stays_in_range.ensures _ _ c.lit.ensures.0 after in
-    (s.requires.1, s.requires.0.are, rw c.pattern-pattern.ensures (in_range _ c.stays_in_range.result late c.if-not-stays_in_range.false))
+    (c.requires.1, c.requires.0.are, rw c.pattern-pattern.ensures (in_range _ c.stays_in_range.result late c.if-not-stays_in_range.false))
 
 pub returns : goal.returns
 unfolding after
 returns c =
     λ keys random.
-    let s = c in
-    let a = s.args in
+    let a = c.args in
     let shown = rw c.pattern-pattern.ensures at c.show.ensures in
     let after = rw (c.v-2.ensures, c.v.ensures, c.pattern-pattern.ensures) at c.lit_after-after.ensures.0 in
     let late = c.stays_in_range.ensures _ _ c.lit.ensures.0 after in
     let passes = in_range _ c.stays_in_range.result (own a.m a.x a.y a.n a.memory.now a.spots.now _ _ c.in_memory.ensures c.if-not-in_memory.false late) c.if-not-stays_in_range.false in
     rw c.done.ensures
-    (done_by_law a.m a.memory.now a.spots.now s.requires.0 (Draw a.x a.y a.n) keys random passes (ap (with_wait Idle) shown.0) refl
+    (done_by_law a.m a.memory.now a.spots.now c.requires.0 (Draw a.x a.y a.n) keys random passes (ap (with_wait Idle) shown.0) refl
     shown.1 shown.2)

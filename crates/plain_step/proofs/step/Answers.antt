@@ -5,23 +5,19 @@ use Rattle.plain_step.proofs.step.Goals as goal
 
 -- memory goes beyond the program's address
 pub overflow_sub-m : goal.overflow_sub-m
-overflow_sub-m c = let s = c in omega (arith, s.requires.good.machine.end.least)
+overflow_sub-m c = omega (arith, c.requires.good.machine.end.least)
 
 pub returns-then-m-pc : goal.returns-then-m-pc
 returns-then-m-pc c =
-    let s = c in
-    rw c.refused.ensures (too_far _ _ _ s.requires s.args.keys s.args.random c.if-m-pc.true)
+    rw c.refused.ensures (too_far _ _ _ c.requires c.args.keys c.args.random c.if-m-pc.true)
 
 pub carry_out-requires : goal.carry_out-requires
 carry_out-requires c =
-    let near = c in
-    let s = near in
-    (s.requires, omega (arith, near.if-m-pc.false, s.requires.good.machine.end.most))
+    (c.requires, omega (arith, c.if-m-pc.false, c.requires.good.machine.end.most))
 
 pub returns : goal.returns
 returns c =
-    let carried = c in
-    let looked-up = carried in
+    let looked-up = c in
     let near = looked-up in
     let s = near in
-    one_step _ _ _ s.requires s.args.keys s.args.random _ _ _ _ _ near.if-m-pc.false looked-up.look_up-op.ensures carried.carry_out.ensures
+    one_step _ _ _ s.requires s.args.keys s.args.random _ _ _ _ _ near.if-m-pc.false looked-up.look_up-op.ensures c.carry_out.ensures

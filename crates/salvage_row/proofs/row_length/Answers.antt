@@ -26,10 +26,9 @@ is_damaged-requires c = simp (length-take, length-drop) (omega arith)
 
 pub returns-then-is_damaged : goal.returns-then-is_damaged
 returns-then-is_damaged c =
-    let before = c in
-    let loop = before.loop-k in
-    let same = lent_record _ _ _ loop.n loop.invariant.0 before.place_before-p.ensures.0 in
-    let end = before.args.end in
+    let loop = c.loop-k in
+    let same = lent_record _ _ _ loop.n loop.invariant.0 c.place_before-p.ensures.0 in
+    let end = c.args.end in
     let bad = ap (λ (r : List ℕ). damaged end r loop.d) (sym same) ∙ sym c.is_damaged.ensures ∙ c.if-is_damaged.true in
     row_stop _ _ _ loop.k loop.n loop.d _ (omega arith) bad loop.invariant.2
 
@@ -38,12 +37,11 @@ depth_at-d-requires c = simp (length-take, length-drop) (omega arith)
 
 pub loop-k-preserved : goal.loop-k-preserved
 loop-k-preserved c =
-    let before = c in
-    let loop = before.loop-k in
-    let args = before.args in
+    let loop = c.loop-k in
+    let args = c.args in
     let history = args.history.now in
     let end = args.end in
-    let place = before.place_before-p.ensures in
+    let place = c.place_before-p.ensures in
     let same = lent_record history _ _ loop.n loop.invariant.0 place.0 in
     let good = ap (λ (r : List ℕ). damaged end r loop.d) (sym same) ∙ sym c.is_damaged.ensures ∙ c.if-is_damaged.false in (
       loop.invariant.0,
