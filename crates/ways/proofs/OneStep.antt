@@ -1,6 +1,6 @@
 -- A step of a world that passed the tests 9 and 10: what it gives where it is refused, what its parts ask, and what they make together.
 use mathlib.Core.Path.{◌≡◌, refl, sym, ap, ◌∙◌}
-use mathlib.Core.List.{List}
+use mathlib.Core.List.{List, []}
 use Prim.Native.Nat.{ℕ, ◌+◌, ◌-◌, ◌*◌, ◌≤◌, ◌<◌}
 use native.Mathlib.Omega.{arith}
 use lib.Dec.{eqb}
@@ -10,6 +10,7 @@ use Rattle.rules.specs.declared.Action.{Action}
 use Rattle.rules.specs.declared.Action.TheVariants.{Step}
 use Rattle.rules.specs.declared.Machine.{Machine}
 use Rattle.rules.specs.declared.Trail.{Trail}
+use Rattle.rules.specs.declared.Change.TheVariants.{Nothing}
 use Rattle.rules.specs.declared.Op.{Op}
 use Rattle.rules.specs.declared.Op.TheVariants.{Plain, AwaitKey, Call, Return, Clear, Draw, Decimal, Store, Fetch}
 use Rattle.rules.specs.declared.Op.TheVariants.{Unlisted, MachineCode}
@@ -42,7 +43,7 @@ use Rattle.decode.proofs.Cases.{elsewhere, drawing_apart}
 use Rattle.act.specs.Able.{Able}
 use Rattle.act.specs.Became.{acted, Became}
 use Rattle.keeping.specs.Writable.{blank, Reaches}
-use Rattle.keeping.proofs.Laid.{kept}
+use Rattle.keeping.proofs.Laid.{kept, nothing_old}
 use Rattle.parts.specs.Whole.{whole}
 use Rattle.parts.specs.declared.Core.{Core}
 use Rattle.ways.specs.declared.Stepped.{Stepped}
@@ -161,6 +162,15 @@ module _ (w : World) (h : Ready w) where
         (record { says = refl; machine = b'.machine; trail = t; memory = b'.memory; picture = b'.picture; history = rw e at k })
 
 -- ---- the ways through a step
+
+-- what was judged Done passed
+pub passed : {o : Outcome} {n : ℕ} → number o ≡ n → o ≡ Done → n ≡ 0
+passed says done = sym says ∙ ap number done
+
+-- a record that says that nothing changed is whole without old bytes
+pub nothing_kept : (m : Machine) (a : Action) (history his : List ℕ) (at : ℕ) → his ≡ over history at (blank m Nothing a) 292
+    → his ≡ over history at (record_with m Nothing [] a) 292
+nothing_kept m a history his at e = e ∙ ap (λ (l : List ℕ). over history at l 292) (nothing_old m a)
 
 -- a refused step hands everything back
 pub back : (keys random : ℕ) (c : Core) (v stack : List ℕ) (t : Trail) (mem pic his : List ℕ) (o : Outcome)
