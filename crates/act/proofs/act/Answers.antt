@@ -1,32 +1,14 @@
 -- Each arm is the definition's clause for the instruction that was matched: its callee's promise, and what it leaves alone. Eight are never asked.
-use mathlib.Core.Path.{◌≡◌, refl}
-use mathlib.Core.List.{List, []}
-use Prim.Native.Nat.{ℕ}
+use mathlib.Core.Path.{refl}
+use mathlib.Core.List.{[]}
 use native.Mathlib.Omega.{arith}
 use lib.Dec.{eqb}
-use Rattle.rules.specs.declared.Machine.{Machine}
-use Rattle.rules.specs.declared.Op.{Op}
 use Rattle.rules.specs.declared.Op.TheVariants.{Decimal, Store}
 use Rattle.rules.specs.Step.{after, refusal_of}
-use Rattle.rules.specs.Rows.{bytes_of}
 use Rattle.parts.specs.Whole.{whole}
 use Rattle.decode.proofs.Cases.{elsewhere, drawing_apart}
-use Rattle.act.specs.Became.{acted, Became}
 use Rattle.act.proofs.Laws.{decimal_reach, store_reach, clear_passes, clear_balance, still}
-use Rattle.act.proofs.act.Goals.{After-slice_known-in-Decimal-1, After-slice_known-in-Store-1}
 use Rattle.act.proofs.act.Goals as goal
-
-stayed : (s : After-slice_known-in-Decimal-1) (op : Op) (keys random : ℕ) (stack : List ℕ) {m' : Machine} {mem' pic' : List ℕ}
-    → let a = s.args in let m = whole a.c a.v.now stack in let P = bytes_of a.rows.now in
-    (after op keys random m a.memory.now P).picture ≡ P → Became (after op keys random m a.memory.now P) m' mem' pic'
-    → Became (acted op keys random m a.memory.now P) m' mem' pic'
-stayed s op keys random stack = let a = s.args in still op keys random (whole a.c a.v.now stack) a.memory.now (bytes_of a.rows.now)
-
-stayed_2 : (s : After-slice_known-in-Store-1) (op : Op) (keys random : ℕ) (stack : List ℕ) {m' : Machine} {mem' pic' : List ℕ}
-    → let a = s.args in let m = whole a.c a.v.now stack in let P = bytes_of a.rows.now in
-    (after op keys random m a.memory.now P).picture ≡ P → Became (after op keys random m a.memory.now P) m' mem' pic'
-    → Became (acted op keys random m a.memory.now P) m' mem' pic'
-stayed_2 s op keys random stack = let a = s.args in still op keys random (whole a.c a.v.now stack) a.memory.now (bytes_of a.rows.now)
 
 pub clear-requires : goal.clear-requires
 clear-requires c =
@@ -59,8 +41,7 @@ returns-in-Return c keys random stack = elsewhere refl (rw c.in-Return.is at (c.
 pub returns-in-Clear : goal.returns-in-Clear
 unfolding after
 returns-in-Clear c keys random stack =
-    let cleared = c in
-    rw cleared.in-Clear.is (record { machine = cleared.clear.ensures.by_index _ _; memory = refl; picture = cleared.clear.ensures.rows_after })
+    rw c.in-Clear.is (record { machine = c.clear.ensures.by_index _ _; memory = refl; picture = c.clear.ensures.rows_after })
 
 pub returns-in-Draw : goal.returns-in-Draw
 returns-in-Draw c keys random stack = drawing_apart (eqb c.in-Draw.field-2 0) (rw c.in-Draw.is at (c.requires []).other)
@@ -68,16 +49,14 @@ returns-in-Draw c keys random stack = drawing_apart (eqb c.in-Draw.field-2 0) (r
 pub returns-in-Decimal : goal.returns-in-Decimal
 unfolding after
 returns-in-Decimal c keys random stack =
-    let told = c in
-    rw told.in-Decimal.is
-    (stayed told (Decimal _) keys random stack refl (record { machine = c.decimal.ensures.by_index _ _; memory = c.decimal.ensures.memory_after; picture = refl }))
+    rw c.in-Decimal.is
+    (still (Decimal _) keys random (whole c.args.c c.args.v.now stack) _ _ refl (record { machine = c.decimal.ensures.by_index _ _; memory = c.decimal.ensures.memory_after; picture = refl }))
 
 pub returns-in-Store : goal.returns-in-Store
 unfolding after
 returns-in-Store c keys random stack =
-    let told = c in
-    rw told.in-Store.is
-    (stayed_2 told (Store _) keys random stack refl (record { machine = c.store.ensures.by_index _ _; memory = c.store.ensures.memory_after; picture = refl }))
+    rw c.in-Store.is
+    (still (Store _) keys random (whole c.args.c c.args.v.now stack) _ _ refl (record { machine = c.store.ensures.by_index _ _; memory = c.store.ensures.memory_after; picture = refl }))
 
 pub returns-in-Fetch : goal.returns-in-Fetch
 returns-in-Fetch c keys random stack = elsewhere refl (rw c.in-Fetch.is at (c.requires []).other)

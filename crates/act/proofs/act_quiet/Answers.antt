@@ -1,12 +1,8 @@
 -- Each arm is the definition's clause for the instruction that was matched: its callee's promise, and what it leaves alone. Six are never asked.
-use mathlib.Core.Path.{◌≡◌, refl, ap, ◌∙◌}
-use mathlib.Core.List.{List}
-use Prim.Native.Nat.{ℕ}
+use mathlib.Core.Path.{refl, ap, ◌∙◌}
 use native.Mathlib.Omega.{arith}
 use lib.Dec.{eqb}
 use borrow.Author.Tests.{eqb-true}
-use Rattle.rules.specs.declared.Machine.{Machine}
-use Rattle.rules.specs.declared.Op.{Op}
 use Rattle.rules.specs.declared.Op.TheVariants.{AwaitKey, Call, Return, Draw, Fetch}
 use Rattle.rules.specs.declared.Wait.TheVariants.{Idle}
 use Rattle.rules.specs.State.{with_wait}
@@ -14,51 +10,18 @@ use Rattle.rules.specs.Step.{after, column, row}
 use Rattle.parts.specs.Whole.{whole}
 use Rattle.decode.proofs.Cases.{elsewhere, no_rows}
 use Rattle.transfers.proofs.Quiet.{nothing_drawn, nothing_darkened}
-use Rattle.act.specs.Became.{acted, Became}
 use Rattle.act.proofs.Laws.{call_room, return_entry, fetch_reach, still}
-use Rattle.act.proofs.act_quiet.Goals.{After-awaited, After-fetch, After-idle, After-idle-in-Draw, After-idle-in-Return}
 use Rattle.act.proofs.act_quiet.Goals as goal
 
-stayed : (s : After-awaited) (op : Op) (random : ℕ) (P : List ℕ) {m' : Machine} {mem' pic' : List ℕ}
-    → let a = s.args in let m = whole a.c a.v.now a.stack.now in
-    (after op a.keys random m a.memory.now P).picture ≡ P → Became (after op a.keys random m a.memory.now P) m' mem' pic'
-    → Became (acted op a.keys random m a.memory.now P) m' mem' pic'
-stayed s op random P = let a = s.args in still op a.keys random (whole a.c a.v.now a.stack.now) a.memory.now P
-
-stayed_2 : (s : After-idle) (op : Op) (random : ℕ) (P : List ℕ) {m' : Machine} {mem' pic' : List ℕ}
-    → let a = s.args in let m = whole a.c a.v.now a.stack.now in
-    (after op a.keys random m a.memory.now P).picture ≡ P → Became (after op a.keys random m a.memory.now P) m' mem' pic'
-    → Became (acted op a.keys random m a.memory.now P) m' mem' pic'
-stayed_2 s op random P = let a = s.args in still op a.keys random (whole a.c a.v.now a.stack.now) a.memory.now P
-
-stayed_3 : (s : After-idle-in-Return) (op : Op) (random : ℕ) (P : List ℕ) {m' : Machine} {mem' pic' : List ℕ}
-    → let a = s.args in let m = whole a.c a.v.now a.stack.now in
-    (after op a.keys random m a.memory.now P).picture ≡ P → Became (after op a.keys random m a.memory.now P) m' mem' pic'
-    → Became (acted op a.keys random m a.memory.now P) m' mem' pic'
-stayed_3 s op random P = let a = s.args in still op a.keys random (whole a.c a.v.now a.stack.now) a.memory.now P
-
-stayed_4 : (s : After-idle-in-Draw) (op : Op) (random : ℕ) (P : List ℕ) {m' : Machine} {mem' pic' : List ℕ}
-    → let a = s.args in let m = whole a.c a.v.now a.stack.now in
-    (after op a.keys random m a.memory.now P).picture ≡ P → Became (after op a.keys random m a.memory.now P) m' mem' pic'
-    → Became (acted op a.keys random m a.memory.now P) m' mem' pic'
-stayed_4 s op random P = let a = s.args in still op a.keys random (whole a.c a.v.now a.stack.now) a.memory.now P
-
-stayed_5 : (s : After-fetch) (op : Op) (random : ℕ) (P : List ℕ) {m' : Machine} {mem' pic' : List ℕ}
-    → let a = s.args in let m = whole a.c a.v.now a.stack.now in
-    (after op a.keys random m a.memory.now P).picture ≡ P → Became (after op a.keys random m a.memory.now P) m' mem' pic'
-    → Became (acted op a.keys random m a.memory.now P) m' mem' pic'
-stayed_5 s op random P = let a = s.args in still op a.keys random (whole a.c a.v.now a.stack.now) a.memory.now P
-
 pub called-requires : goal.called-requires
-called-requires c = let s = c in (s.requires.near, call_room _ _ s.requires.allowed s.requires.end _ c.in-Call.is)
+called-requires c = (c.requires.near, call_room _ _ c.requires.allowed c.requires.end _ c.in-Call.is)
 
 pub returned-requires : goal.returned-requires
-returned-requires c = let s = c in (return_entry _ _ s.requires.allowed s.requires.end c.in-Return.is, s.requires.shallow)
+returned-requires c = (return_entry _ _ c.requires.allowed c.requires.end c.in-Return.is, c.requires.shallow)
 
 pub fetch-requires : goal.fetch-requires
 fetch-requires c =
-    let s = c in
-    record { near = s.requires.near; within = fetch_reach _ _ s.requires.allowed s.requires.end _ c.in-Fetch.is; memory = s.requires.memory }
+    record { near = c.requires.near; within = fetch_reach _ _ c.requires.allowed c.requires.end _ c.in-Fetch.is; memory = c.requires.memory }
 
 pub returns-in-Plain : goal.returns-in-Plain
 returns-in-Plain c random P g = elsewhere refl (rw c.in-Plain.is at c.requires.quiet)
@@ -66,22 +29,19 @@ returns-in-Plain c random P g = elsewhere refl (rw c.in-Plain.is at c.requires.q
 pub returns-in-AwaitKey : goal.returns-in-AwaitKey
 unfolding after
 returns-in-AwaitKey c random P g =
-    let told = c in
-    rw told.in-AwaitKey.is (stayed told (AwaitKey _) random P refl (record { machine = c.awaited.ensures _; memory = refl; picture = refl }))
+    rw c.in-AwaitKey.is (still (AwaitKey _) c.args.keys random (whole c.args.c c.args.v.now c.args.stack.now) _ P refl (record { machine = c.awaited.ensures _; memory = refl; picture = refl }))
 
 pub returns-in-Call : goal.returns-in-Call
 unfolding after
 returns-in-Call c random P g =
-    let told = c in
-    rw told.in-Call.is
-    (stayed_2 told (Call _) random P refl (record { machine = c.idle.ensures _ _ ∙ ap (with_wait Idle) (c.called.ensures _); memory = refl; picture = refl }))
+    rw c.in-Call.is
+    (still (Call _) c.args.keys random (whole c.args.c c.args.v.now c.args.stack.now) _ P refl (record { machine = c.idle.ensures _ _ ∙ ap (with_wait Idle) (c.called.ensures _); memory = refl; picture = refl }))
 
 pub returns-in-Return : goal.returns-in-Return
 unfolding after
 returns-in-Return c random P g =
-    let told = c in
-    rw told.in-Return.is
-    (stayed_3 told Return random P refl (record { machine = c.idle-in-Return.ensures _ _ ∙ ap (with_wait Idle) (c.returned.ensures _); memory = refl; picture = refl }))
+    rw c.in-Return.is
+    (still Return c.args.keys random (whole c.args.c c.args.v.now c.args.stack.now) _ P refl (record { machine = c.idle-in-Return.ensures _ _ ∙ ap (with_wait Idle) (c.returned.ensures _); memory = refl; picture = refl }))
 
 pub returns-in-Clear : goal.returns-in-Clear
 returns-in-Clear c random P g = elsewhere refl (rw c.in-Clear.is at c.requires.quiet)
@@ -90,16 +50,14 @@ returns-in-Clear c random P g = elsewhere refl (rw c.in-Clear.is at c.requires.q
 pub returns-in-Draw : goal.returns-in-Draw
 unfolding after
 returns-in-Draw c random P g =
-    let told = c in
-    let s = told in
-    let a = s.args in
+    let a = c.args in
     let m = whole a.c a.v.now a.stack.now in
-    let is = told.in-Draw.is in
-    let none = eqb-true c.in-Draw.field-2 0 (no_rows (eqb c.in-Draw.field-2 0) (rw is at s.requires.quiet)) in
+    let is = c.in-Draw.is in
+    let none = eqb-true c.in-Draw.field-2 0 (no_rows (eqb c.in-Draw.field-2 0) (rw is at c.requires.quiet)) in
     let at = column m c.in-Draw.field-0 in
     let down = row m c.in-Draw.field-1 in
     rw (is, none)
-    (stayed_4 s (Draw _ _ 0) random P (nothing_drawn at down P g (omega arith))
+    (still (Draw _ _ 0) a.keys random m _ P (nothing_drawn at down P g (omega arith))
     (record {
       machine = rw (nothing_darkened at down P) (c.idle-in-Draw.ensures _ _ ∙ ap (with_wait Idle) (c.put.ensures _));
       memory = refl;
@@ -115,9 +73,8 @@ returns-in-Store c random P g = elsewhere refl (rw c.in-Store.is at c.requires.q
 pub returns-in-Fetch : goal.returns-in-Fetch
 unfolding after
 returns-in-Fetch c random P g =
-    let told = c in
-    rw told.in-Fetch.is
-    (stayed_5 told (Fetch _) random P refl (record { machine = c.fetch.ensures _; memory = refl; picture = refl }))
+    rw c.in-Fetch.is
+    (still (Fetch _) c.args.keys random (whole c.args.c c.args.v.now c.args.stack.now) _ P refl (record { machine = c.fetch.ensures _; memory = refl; picture = refl }))
 
 pub returns-in-Unlisted : goal.returns-in-Unlisted
 returns-in-Unlisted c random P g = elsewhere refl (rw c.in-Unlisted.is at c.requires.quiet)

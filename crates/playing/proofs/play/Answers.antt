@@ -2,46 +2,35 @@
 use mathlib.Core.Path.{◌≡◌, sym, ap, ◌∙◌}
 use mathlib.Core.Bool.{◌&&◌, and-eq-true_iff}
 use Rattle.rules.specs.Refusal.{number}
-use Rattle.rules.specs.World.{World, world}
+use Rattle.rules.specs.World.{world}
 use Rattle.rules.specs.Run.{lists_fit, all_moves}
 use Rattle.rules.specs.Rows.{bytes_of}
 use Rattle.rules.proofs.Parts.{below_of}
 use Rattle.rules.proofs.Ready.{ready_typed}
 use Rattle.rules.proofs.Given.{tests, passed_lists}
 use Rattle.playing.proofs.Moves.{play_refused, play_admitted, start_not_refused, play_told}
-use Rattle.playing.proofs.play.Goals.{After-make_all-arg-3-1, After-slice_known-6-1, In_default}
 use Rattle.playing.proofs.play.Goals as goal
-
-abbrev given : In_default → World
-given s = let a = s.args in world a.machine a.trail a.memory.now (bytes_of a.rows.now) a.history.now
-
-abbrev given_2 : After-make_all-arg-3-1 → World
-given_2 s = let a = s.args in world a.machine a.trail a.memory.now (bytes_of a.rows.now) a.history.now
-
-abbrev given_3 : After-slice_known-6-1 → World
-given_3 s = let a = s.args in world a.machine a.trail a.memory.now (bytes_of a.rows.now) a.history.now
 
 pub returns-in_default : goal.returns-in_default
 returns-in_default c =
     let refused = c.in_default.is in
     let says = rw refused at (rw (c.all_moves.ensures, c.lists_fit.ensures) at c.admitted-outcome.ensures.result_value) in
-    let s = c in
-    let a = s.args in
-    let w = given s in
+    let a = c.args in
+    let w = world a.machine a.trail a.memory.now (bytes_of a.rows.now) a.history.now in
     let r = c.in_default.field-0 in record { gives = rw refused (play_refused _ _ _ w _ says); play_tells = λ start lists all. absurd (start_not_refused a.moves.now a.keys.now a.randoms.now w r says start lists all) }
 
 pub make_all-requires : goal.make_all-requires
 make_all-requires c =
-    let s = c in
+    let a = c.args in
+    let w = world a.machine a.trail a.memory.now (bytes_of a.rows.now) a.history.now in
     let says = rw (c.all_moves.ensures, c.lists_fit.ensures) at c.admitted-outcome.ensures.result_value in
-    ((and-eq-true_iff (lists_fit s.args.moves.now s.args.keys.now s.args.randoms.now) (all_moves s.args.moves.now)).0
-    (passed_lists (given_2 s) _ _ says c.in-Done.is)).0
+    ((and-eq-true_iff (lists_fit a.moves.now a.keys.now a.randoms.now) (all_moves a.moves.now)).0
+    (passed_lists w _ _ says c.in-Done.is)).0
 
 pub returns : goal.returns
 returns c =
-    let s = c in
-    let a = s.args in
-    let w = given_3 s in
+    let a = c.args in
+    let w = world a.machine a.trail a.memory.now (bytes_of a.rows.now) a.history.now in
     let done = c.in-Done.is in
     let admitted = c.admitted-outcome.ensures in
     let says = rw (c.all_moves.ensures, c.lists_fit.ensures) at admitted.result_value in

@@ -2,29 +2,19 @@
 use mathlib.Core.Path.{sym, ◌∙◌}
 use native.Mathlib.Omega.{arith}
 use lib.ListN.{length-take, length-drop}
-use Rattle.rules.specs.World.{World, world}
+use Rattle.rules.specs.World.{world}
 use Rattle.rules.specs.Rows.{bytes_of}
 use Rattle.repeating.proofs.Redone.{next_lent, nothing_ahead, kind_unknown, redo_gives}
-use Rattle.repeating.proofs.redo.Goals.{After-still_ahead, Then-not-kind_sound, Then-trail-eq0}
 use Rattle.repeating.proofs.redo.Goals as goal
 
-abbrev given : Then-trail-eq0 → World
-given s = let a = s.args in world a.machine a.trail a.memory.now (bytes_of a.rows.now) a.history.now
-
-abbrev given_2 : Then-not-kind_sound → World
-given_2 s = let a = s.args in world a.machine a.trail a.memory.now (bytes_of a.rows.now) a.history.now
-
-abbrev given_3 : After-still_ahead → World
-given_3 s = let a = s.args in world a.machine a.trail a.memory.now (bytes_of a.rows.now) a.history.now
-
 pub returns-then-trail-eq0 : goal.returns-then-trail-eq0
-returns-then-trail-eq0 c = let s = c in nothing_ahead (given s) s.requires c.if-trail-eq0.true
+returns-then-trail-eq0 c = nothing_ahead _ c.requires c.if-trail-eq0.true
 
 pub overflow_mul-at : goal.overflow_mul-at
-overflow_mul-at c = let s = c in omega (arith, s.requires.next, s.requires.most)
+overflow_mul-at c = omega (arith, c.requires.next, c.requires.most)
 
 pub overflow_add-end : goal.overflow_add-end
-overflow_add-end c = let s = c in omega (arith, s.requires.next, s.requires.most)
+overflow_add-end c = omega (arith, c.requires.next, c.requires.most)
 
 pub slice_bounds-kind_sound-end : goal.slice_bounds-kind_sound-end
 slice_bounds-kind_sound-end c = omega (arith, c.requires.next)
@@ -34,9 +24,10 @@ kind_sound-requires c = simp (length-take, length-drop) (omega (arith, c.require
 
 pub returns-then-not-kind_sound : goal.returns-then-not-kind_sound
 returns-then-not-kind_sound c =
-    let s = c in
-    let kind = rw (next_lent (given_2 s)) at c.kind_sound.ensures in
-    kind_unknown (given_2 s) s.requires c.if-trail-eq0.false (sym kind ∙ c.if-not-kind_sound.true)
+    let a = c.args in
+    let w = world a.machine a.trail a.memory.now (bytes_of a.rows.now) a.history.now in
+    let kind = rw (next_lent w) at c.kind_sound.ensures in
+    kind_unknown w c.requires c.if-trail-eq0.false (sym kind ∙ c.if-not-kind_sound.true)
 
 pub slice_bounds-action_at-end : goal.slice_bounds-action_at-end
 slice_bounds-action_at-end c = omega (arith, c.requires.next)
@@ -46,10 +37,10 @@ action_at-action-requires c = simp (length-take, length-drop) (omega (arith, c.r
 
 pub returns : goal.returns
 returns c =
-    let s = c in
-    let w = given_3 s in
+    let a = c.args in
+    let w = world a.machine a.trail a.memory.now (bytes_of a.rows.now) a.history.now in
     let kind = rw (next_lent w) at c.kind_sound.ensures in
     let action = rw (next_lent w) at c.action_at-action.ensures in
     let made = rw action at c.take-made.ensures in
     rw c.still_ahead.ensures
-    (redo_gives w s.requires c.if-trail-eq0.false (sym kind ∙ c.if-not-kind_sound.false) _ _ _ _ _ _ made)
+    (redo_gives w c.requires c.if-trail-eq0.false (sym kind ∙ c.if-not-kind_sound.false) _ _ _ _ _ _ made)

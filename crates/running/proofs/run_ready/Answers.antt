@@ -1,35 +1,13 @@
 -- The invariant: after i entries, what is still to be done from here gives the same answer.
-use mathlib.Core.Path.{◌≡◌, refl, sym, ◌∙◌}
+use mathlib.Core.Path.{refl, sym, ◌∙◌}
 use native.Mathlib.Omega.{arith}
-use borrow.Author.Rules.{rules}
-use lib.ListN.{length}
 use Rattle.running.proofs.Entries.{lists_same, started, ended, ended_totals, went_on, stopped, stopped_totals}
 use Rattle.running.proofs.Nothing.{nothing_added}
-use Rattle.running.proofs.run_ready.Goals.{After-added-dark, After-ran}
 use Rattle.running.proofs.run_ready.Goals as goal
-
-memory_length : (c : After-ran) → length c.entry-moved.new.memory ≡ length c.args.memory.now
-memory_length c = let same : length c.entry-moved.new.memory ≡ length c.loop-i.memory = search rules in same ∙ c.loop-i.invariant.0
-
-rows_length : (c : After-ran) → length c.entry-moved.new.rows ≡ length c.args.rows.now
-rows_length c = let same : length c.entry-moved.new.rows ≡ length c.loop-i.rows = search rules in same ∙ c.loop-i.invariant.1
-
-history_length : (c : After-ran) → length c.entry-moved.new.history ≡ length c.args.history.now
-history_length c = let same : length c.entry-moved.new.history ≡ length c.loop-i.history = search rules in same ∙ c.loop-i.invariant.2
-
-memory_length_2 : (c : After-added-dark) → length c.entry-moved.new.memory ≡ length c.args.memory.now
-memory_length_2 c = let same : length c.entry-moved.new.memory ≡ length c.loop-i.memory = search rules in same ∙ c.loop-i.invariant.0
-
-rows_length_2 : (c : After-added-dark) → length c.entry-moved.new.rows ≡ length c.args.rows.now
-rows_length_2 c = let same : length c.entry-moved.new.rows ≡ length c.loop-i.rows = search rules in same ∙ c.loop-i.invariant.1
-
-history_length_2 : (c : After-added-dark) → length c.entry-moved.new.history ≡ length c.args.history.now
-history_length_2 c = let same : length c.entry-moved.new.history ≡ length c.loop-i.history = search rules in same ∙ c.loop-i.invariant.2
 
 pub loop-i-init : goal.loop-i-init
 loop-i-init c =
-    let s = c in
-    (refl, refl, refl, started _ _ _ _ (lists_same _ _ _ s.requires.randoms_value) (rw c.core_of-c.ensures s.requires.ready))
+    (refl, refl, refl, started _ _ _ _ (lists_same _ _ _ c.requires.randoms_value) (rw c.core_of-c.ensures c.requires.ready))
 
 pub bounds-keys-i : goal.bounds-keys-i
 bounds-keys-i c = omega (arith, c.loop-i.invariant.3.lists.keys)
@@ -41,13 +19,13 @@ pub entry-moved-requires : goal.entry-moved-requires
 entry-moved-requires c = c.loop-i.invariant.3.ready
 
 pub shape_of-memory-in_default : goal.shape_of-memory-in_default
-shape_of-memory-in_default c = memory_length c
+shape_of-memory-in_default c = c.entry-moved.auto.memory ∙ c.loop-i.invariant.0
 
 pub shape_of-rows-in_default : goal.shape_of-rows-in_default
-shape_of-rows-in_default c = rows_length c
+shape_of-rows-in_default c = c.entry-moved.auto.rows ∙ c.loop-i.invariant.1
 
 pub shape_of-history-in_default : goal.shape_of-history-in_default
-shape_of-history-in_default c = history_length c
+shape_of-history-in_default c = c.entry-moved.auto.history ∙ c.loop-i.invariant.2
 
 pub returns-in_default : goal.returns-in_default
 returns-in_default c =
@@ -83,9 +61,9 @@ loop-i-smaller c = omega (arith, c.loop-i-test.true)
 pub loop-i-preserved : goal.loop-i-preserved
 loop-i-preserved c =
     let entry = c.entry-moved.ensures in (
-      memory_length_2 c,
-      rows_length_2 c,
-      history_length_2 c,
+      c.entry-moved.auto.memory ∙ c.loop-i.invariant.0,
+      c.entry-moved.auto.rows ∙ c.loop-i.invariant.1,
+      c.entry-moved.auto.history ∙ c.loop-i.invariant.2,
       rw (c.added-copied.ensures, c.added-dark.ensures) (went_on _ _ _ _ _ _ _ _ c.loop-i.invariant.3 c.loop-i-test.true _ _ _ _ _ _ _ (rw c.in-Done.is at entry.gives) entry.dark entry.dark_few entry.copied entry.copied_few),
     )
 
