@@ -144,7 +144,8 @@ keep_module() { # ARCHIVE
 # Compiles an LLVM module that was kept for another machine, to FOLDER/module.o:
 # with the words that the toolchain told its own clang, but for those that name
 # the machine, and fast also where those were for a first look. The module names
-# its machine as well, and takes an address as a number of 64 bits.
+# its machine as well, takes an address as a number of 64 bits, and reads one that
+# stands behind a byte eight bytes on, also where a pointer has four.
 compile_module() { # KEPT TRIPLE FOLDER
     triple=$2
     folder=$3
@@ -154,6 +155,8 @@ compile_module() { # KEPT TRIPLE FOLDER
         -e 's/"target-cpu"="[^"]*"/"target-cpu"="generic"/' \
         -e 's/ "target-features"="[^"]*"//' \
         -e 's/ = ptrtoaddr ptr / = ptrtoint ptr /' \
+        -e 's/extractvalue { i8, ptr } \(%[^,]*\), 1/extractvalue { i8, ptr } \1, 2/' \
+        -e 's/{ i8, ptr }/{ i8, [7 x i8], ptr }/g' \
         "$1/module.ll" >"$folder/module.ll"
     exec 3<"$1/words"
     set --

@@ -20,7 +20,7 @@ pub fn act_quiet(
     c: Core,
     v: &mut [u8; 16],
     stack: &mut [u16; Machine::STACK],
-    memory: &[u8],
+    memory: &[u8; Machine::MEMORY],
     keys: u16,
 ) -> Core
     requires { Able op (whole c v.old stack.old) memory.now }
@@ -44,7 +44,14 @@ pub fn act_quiet(
 }
 
 // Any other instruction that is no drawing, after it was judged and its record kept. The last two are always refused.
-pub fn act(op: Op, c: Core, v: &[u8; 16], memory: &mut [u8], rows: &mut [u64], dark: usize) -> Core
+pub fn act(
+    op: Op,
+    c: Core,
+    v: &[u8; 16],
+    memory: &mut [u8; Machine::MEMORY],
+    rows: &mut [u64; Machine::ROWS],
+    dark: usize,
+) -> Core
     requires { (stack : List ℕ) → Accepted op (whole c v.now stack) memory.old rows.old dark }
     ensures { (keys random : ℕ) (stack : List ℕ) → Became
         (acted op keys random (whole c v.now stack) memory.old (bytes_of rows.old))

@@ -11,10 +11,7 @@ pub const ANSWER: usize = 4;
 pub fn put_answer(answer: &mut [u64], first: u64, second: u64, third: u64)
     ensures { answer.new ≡ answered first second third answer.old }
 {
-    if answer.len() == ANSWER {
-        answer[0] = first;
-        answer[1] = second;
-        answer[2] = third;
-        answer[3] = 0;
+    if let Some(numbers) = answer.as_mut_array::<{ ANSWER }>() {
+        *numbers = [first, second, third, 0];
     }
 }

@@ -1,3 +1,2 @@
--- What the calls of the boundary share in their proofs, and that their promises are tight.
-pub mod Laws
+-- That the calls' promises are tight.
 pub mod OnlyOne

@@ -15,6 +15,7 @@ ghost use Rattle.card.specs.Card as spec;
 
 // ---- what a host calls
 
+#[tactic(auto, unfolding(crate::specs::Card::card_load))]
 #[unsafe(no_mangle)]
 pub extern "C" fn card_load(
     program: &[u8],
@@ -29,12 +30,13 @@ pub extern "C" fn card_load(
         (spec.card_load program.now edition end image.old memory.old (bytes_of rows.old)
         history.old) result image.new memory.new (bytes_of rows.new) history.new }
 {
-    if image.len() != image::IMAGE {
+    let Some(image) = image.as_mut_array() else {
         return 9;
-    }
+    };
     imaged::load(program, edition, end, image, memory, rows, history)
 }
 
+#[tactic(auto, unfolding(crate::specs::Card::card_step, crate::specs::Card::step_went_dark))]
 #[unsafe(no_mangle)]
 pub extern "C" fn card_step(
     image: &mut [u8],
@@ -53,10 +55,10 @@ pub extern "C" fn card_step(
         (spec.step_went_dark image.old memory.old (bytes_of rows.old) history.old) 0
         answer.old }
 {
-    if image.len() != image::IMAGE {
+    let Some(image) = image.as_mut_array() else {
         answering::put_answer(answer, 0, 0, 0);
         return 9;
-    }
+    };
     if answer.len() != answering::ANSWER {
         return 9;
     }
@@ -65,17 +67,19 @@ pub extern "C" fn card_step(
     told.number
 }
 
+#[tactic(auto, unfolding(crate::specs::Card::card_tick))]
 #[unsafe(no_mangle)]
 pub extern "C" fn card_tick(image: &mut [u8], history: &mut [u8]) -> u32
     ensures { (memory picture : List ℕ) → Leaves (spec.card_tick image.old memory picture history.old) result
         image.new memory picture history.new }
 {
-    if image.len() != image::IMAGE {
+    let Some(image) = image.as_mut_array() else {
         return 9;
-    }
+    };
     imaged::tick(image, history)
 }
 
+#[tactic(auto, unfolding(crate::specs::Card::card_back))]
 #[unsafe(no_mangle)]
 pub extern "C" fn card_back(
     image: &mut [u8],
@@ -86,12 +90,13 @@ pub extern "C" fn card_back(
     ensures { Leaves (spec.card_back image.old memory.old (bytes_of rows.old) history.now)
         result image.new memory.new (bytes_of rows.new) history.now }
 {
-    if image.len() != image::IMAGE {
+    let Some(image) = image.as_mut_array() else {
         return 9;
-    }
+    };
     imaged::back(image, memory, rows, history)
 }
 
+#[tactic(auto, unfolding(crate::specs::Card::card_forward))]
 #[unsafe(no_mangle)]
 pub extern "C" fn card_forward(
     image: &mut [u8],
@@ -103,12 +108,13 @@ pub extern "C" fn card_forward(
         (spec.card_forward image.old memory.old (bytes_of rows.old) history.old) result
         image.new memory.new (bytes_of rows.new) history.new }
 {
-    if image.len() != image::IMAGE {
+    let Some(image) = image.as_mut_array() else {
         return 9;
-    }
+    };
     imaged::forward(image, memory, rows, history)
 }
 
+#[tactic(auto, unfolding(crate::specs::Card::card_run, crate::specs::Card::run_accepted, crate::specs::Card::run_went_dark, crate::specs::Card::run_has_copied))]
 #[unsafe(no_mangle)]
 pub extern "C" fn card_run(
     image: &mut [u8],
@@ -132,10 +138,10 @@ pub extern "C" fn card_run(
         (spec.run_has_copied ticks.now keys.now randoms.now image.old
         memory.old (bytes_of rows.old) history.old) answer.old }
 {
-    if image.len() != image::IMAGE {
+    let Some(image) = image.as_mut_array() else {
         answering::put_answer(answer, 0, 0, 0);
         return 9;
-    }
+    };
     if answer.len() != answering::ANSWER {
         return 9;
     }
@@ -144,6 +150,7 @@ pub extern "C" fn card_run(
     told.number
 }
 
+#[tactic(auto, unfolding(crate::specs::Card::card_play))]
 #[unsafe(no_mangle)]
 pub extern "C" fn card_play(
     image: &mut [u8],
@@ -162,12 +169,13 @@ pub extern "C" fn card_play(
         (world_of image.old memory.old (bytes_of rows.old) history.old)
         (world_of image.new memory.new (bytes_of rows.new) history.new) }
 {
-    if image.len() != image::IMAGE {
+    let Some(image) = image.as_mut_array() else {
         return 9;
-    }
+    };
     imaged_lists::play(image, memory, rows, history, moves, keys, randoms)
 }
 
+#[tactic(auto, unfolding(crate::specs::Card::card_salvage))]
 #[unsafe(no_mangle)]
 pub extern "C" fn card_salvage(
     image: &mut [u8],
@@ -182,10 +190,10 @@ pub extern "C" fn card_salvage(
         (spec.card_salvage true image.old history.old list.old).kept
         (spec.card_salvage true image.old history.old list.old).cleared 0 answer.old }
 {
-    if image.len() != image::IMAGE {
+    let Some(image) = image.as_mut_array() else {
         answering::put_answer(answer, 0, 0, 0);
         return 9;
-    }
+    };
     if answer.len() != answering::ANSWER {
         return 9;
     }
@@ -194,6 +202,7 @@ pub extern "C" fn card_salvage(
     told.number
 }
 
+#[tactic(auto, unfolding(crate::specs::Card::card_plain, crate::specs::Card::plain_accepted))]
 #[unsafe(no_mangle)]
 pub extern "C" fn card_plain(
     image: &mut [u8],
@@ -211,10 +220,10 @@ pub extern "C" fn card_plain(
         (spec.plain_accepted ticks.now keys.now randoms.now image.old
         memory.old spots.old) 0 0 answer.old }
 {
-    if image.len() != image::IMAGE {
+    let Some(image) = image.as_mut_array() else {
         answering::put_answer(answer, 0, 0, 0);
         return 9;
-    }
+    };
     if answer.len() != answering::ANSWER {
         return 9;
     }
@@ -227,35 +236,29 @@ pub extern "C" fn card_plain(
 pub extern "C" fn card_page(image: &[u8], page: &mut [u8]) -> u32
     ensures { LeavesPage result image.now page.old page.new }
 {
-    if image.len() != image::IMAGE {
+    let Some(image) = image.as_array() else {
         return 9;
-    }
-    let standing = image::read(image);
-    let machine = standing.machine;
-    let outcome = stepper::draw(machine, page);
-    image_after::number(outcome)
+    };
+    image_after::number(stepper::draw(image::read(image).machine, page))
 }
 
 #[unsafe(no_mangle)]
 pub extern "C" fn card_panel(picture: &[u8], panel: &mut [u8]) -> u32
     ensures { LeavesPanel result picture.now panel.old panel.new }
 {
-    let outcome = panel::panel(picture, panel);
-    image_after::number(outcome)
+    image_after::number(panel::panel(picture, panel))
 }
 
 #[unsafe(no_mangle)]
 pub extern "C" fn card_rows(picture: &[u8], rows: &mut [u64]) -> u32
     ensures { LeavesRows result picture.now rows.old rows.new }
 {
-    let outcome = chip8::to_rows(picture, rows);
-    image_after::number(outcome)
+    image_after::number(chip8::to_rows(picture, rows))
 }
 
 #[unsafe(no_mangle)]
 pub extern "C" fn card_bytes(rows: &[u64], picture: &mut [u8]) -> u32
     ensures { LeavesBytes result rows.now picture.old picture.new }
 {
-    let outcome = chip8::to_bytes(rows, picture);
-    image_after::number(outcome)
+    image_after::number(chip8::to_bytes(rows, picture))
 }

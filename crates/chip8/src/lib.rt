@@ -35,5 +35,5 @@ pub use fitting::{history_fits, places};
 pub use judge::{soundly, tested};
 pub use soundness::is_sound;
 
-// What they answer beside the buffers that they are lent.
-pub use parts::{Answer, Ran, Stepped};
+// What a load and a run answer beside what they are lent.
+pub use parts::{Answer, Ran};

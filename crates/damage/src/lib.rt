@@ -1,29 +1,27 @@
 // Whether a record is damaged: the tests of document 01's list, and the last byte's. The specs of `rules`, Record.antt, say what a record is.
 #![tactic(auto)]
 
-ghost use Rattle.std.specs.Prelude.{◌≡◌, length};
-ghost use Rattle.rules.specs.Record.{place_size, at_depth};
+ghost use Rattle.std.specs.Prelude.{◌≡◌};
+ghost use Rattle.rules.specs.Record.{at_depth};
 ghost use Rattle.rules.specs.Record.{byte_at, marked, known, allowed, depth_sound, key_sound, kind_sound, damaged, change_at};
 
+use keeping::PLACE;
 use rules::{Change, Machine};
 
-pub fn depth_at(place: &[u8]) -> u8
-    requires { length place.now ≡ place_size }
+pub fn depth_at(place: &[u8; PLACE]) -> u8
     ensures { result ≡ byte_at place.now at_depth }
 {
     place[keeping::AT_DEPTH]
 }
 
-fn is_marked(place: &[u8], a: u8, b: u8) -> bool
-    requires { length place.now ≡ place_size }
+fn is_marked(place: &[u8; PLACE], a: u8, b: u8) -> bool
     ensures { result ≡ marked place.now a b }
 {
     (place[keeping::AT_MARK] == a) & (place[keeping::AT_MARK + 1] == b)
 }
 
 // What the action changed.
-pub fn change_at(place: &[u8]) -> Change
-    requires { length place.now ≡ place_size }
+pub fn change_at(place: &[u8; PLACE]) -> Change
     ensures { result ≡ change_at place.now }
 {
     let start = memory::word_at(place, keeping::AT_START);
@@ -51,8 +49,7 @@ fn is_allowed(c: Change, end: u16) -> bool
 }
 
 // The mark is known, and NO has no start and no count.
-fn is_known(place: &[u8]) -> bool
-    requires { length place.now ≡ place_size }
+fn is_known(place: &[u8; PLACE]) -> bool
     ensures { result ≡ known place.now }
 {
     let start = memory::word_at(place, keeping::AT_START);
@@ -63,36 +60,31 @@ fn is_known(place: &[u8]) -> bool
 }
 
 // At most one away from the present depth; an empty stack has no return address.
-fn depth_sound(place: &[u8], present: u8) -> bool
-    requires { length place.now ≡ place_size }
+fn depth_sound(place: &[u8; PLACE], present: u8) -> bool
     ensures { result ≡ depth_sound place.now present }
 {
     let depth = depth_at(place);
     let last = memory::word_at(place, keeping::AT_LAST);
     (depth as usize <= Machine::STACK)
-        & (depth as u16 <= present as u16 + 1)
-        & (present as u16 <= depth as u16 + 1)
-        & (!(depth == 0) | (last == 0))
+        & (depth.abs_diff(present) <= 1)
+        & ((depth != 0) | (last == 0))
 }
 
-fn key_sound(place: &[u8]) -> bool
-    requires { length place.now ≡ place_size }
+fn key_sound(place: &[u8; PLACE]) -> bool
     ensures { result ≡ key_sound place.now }
 {
     (place[keeping::AT_HELD] <= 15) | (place[keeping::AT_HELD] == 0xFF)
 }
 
 // The last byte is that of a step or of a tick.
-pub fn kind_sound(place: &[u8]) -> bool
-    requires { length place.now ≡ place_size }
+pub fn kind_sound(place: &[u8; PLACE]) -> bool
     ensures { result ≡ kind_sound place.now }
 {
     place[keeping::AT_KIND] <= 1
 }
 
 // Whether a record is damaged, beside a state of that end and the present depth.
-pub fn is_damaged(place: &[u8], end: u16, present: u8) -> bool
-    requires { length place.now ≡ place_size }
+pub fn is_damaged(place: &[u8; PLACE], end: u16, present: u8) -> bool
     ensures { result ≡ damaged end place.now present }
 {
     !(is_known(place)

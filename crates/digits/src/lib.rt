@@ -40,19 +40,12 @@ const TABLE: [u8; 51] = [
 // Where each digit begins in the table.
 const STARTS: [u8; 16] = [32, 46, 22, 26, 41, 24, 16, 36, 18, 20, 30, 12, 8, 0, 4, 6];
 
-// A byte of a slice is widened by a call, so that it needs no proof that it fits.
-fn wide(x: u8) -> usize
-    ensures { result ≡ x }
-{
-    x as usize
-}
-
 // The byte of the digits at `at`. It is right for every table that passes the test `are_digits`.
 fn digit_byte(at: usize, table: &[u8], starts: &[u8]) -> u8
     requires { (at / 5 < length starts.now) × (are_digits table.now 0 starts.now ≡ true) }
     ensures { result ≡ get_or digits at 0 }
 {
-    let start = wide(starts[at / EACH]);
+    let start = usize::from(starts[at / EACH]);
     table[start + at % EACH]
 }
 
@@ -61,9 +54,9 @@ fn digit_byte(at: usize, table: &[u8], starts: &[u8]) -> u8
 pub fn shape_line(digit: u8, line: u8) -> u8
     ensures { result ≡ pick (ltb line 5) (get_or digits (5 * (digit % 16) + line) 0) 0 }
 {
-    let at = EACH * ((digit % 16) as usize) + line as usize;
-    if (line as usize) < EACH {
-        return digit_byte(at, &TABLE, &STARTS);
+    let line = usize::from(line);
+    if line < EACH {
+        return digit_byte(EACH * usize::from(digit % 16) + line, &TABLE, &STARTS);
     }
     0
 }

@@ -2,7 +2,12 @@
 -- has many more at hand.
 use mathlib.Core.Path.{◌≡◌}
 use Prim.Native.Nat.{ℕ, ◌+◌, ◌-◌, ◌*◌, ◌≤◌, ◌<◌, min}
+use mathlib.Core.List.{List}
 use native.Mathlib.Omega.{arith}
+use lib.ListN.{length}
+use Rattle.rules.specs.Picture.{darkened, lightened}
+use Rattle.picture.specs.declared.Spots.{Spots}
+use Rattle.drawing.specs.Turns.{Turns}
 
 -- n bytes of a pattern reach from that row up to `end`
 pub record Reach (row n end : ℕ) : Type 0 where
@@ -29,6 +34,8 @@ module _ {row n end : ℕ} (h : Reach row n end) where
   pub room : (at size : ℕ) → at + 128 ≤ size → at + 8 * (end - row) ≤ size
   room at size r = omega (arith, h.most)
 
-  -- d spots went dark and l lit, of a that were turned over, at most eight in a row
-  pub few_turned : (d d' l a : ℕ) → d ≡ d' → a ≡ l + d' → a ≤ 8 * (end - row) → (d ≤ a) × (a - d ≡ l) × (d + (a - d) ≤ 8 * n)
-  few_turned d d' l a is e s = (omega arith, omega arith, omega (arith, h.on, h.shown))
+-- spots went dark and others were lit, all of them together at most eight in a row
+pub few_turned : (pattern : List ℕ) (column row end : ℕ) (P : List ℕ) (s : Spots) → Reach row (length pattern) end
+    → s.dark ≡ darkened pattern column row P → s.dark + s.lit ≡ lightened pattern column row P + darkened pattern column row P
+    → s.dark + s.lit ≤ 8 * (end - row) → Turns pattern column row P s
+few_turned pattern column row end P s h is e few = record { dark = is; lit = omega arith; few = omega (arith, h.on, h.shown) }

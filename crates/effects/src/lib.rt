@@ -10,7 +10,6 @@ ghost use Rattle.effects.specs.declared.Effect.TheVariants.{Next, Flagged};
 ghost use Rattle.effects.specs.Written.{written};
 
 use parts::Core;
-use registers::flag;
 use rules::Timers;
 
 // What an instruction writes: PC alone; or a result to VX, a result and a flag, I, or the timers, and then PC goes on.
@@ -30,61 +29,54 @@ pub fn skip(pc: u16, test: bool, yes: u16, no: u16) -> Effect
     requires { (pc ≤ 4094) × (yes ≤ 4) × (no ≤ 4) }
     ensures { result ≡ Next (pc + pick test yes no) }
 {
-    if test {
-        return Effect::Next(pc + yes);
-    }
-    Effect::Next(pc + no)
+    Effect::Next(pc + if test { yes } else { no })
 }
 
 // 8XY4
 pub fn plus(x: u8, a: u8, b: u8) -> Effect
     ensures { result ≡ Flagged x ((a + b) % 256) (pick (nat_lt 255 (a + b)) 1 0) }
 {
-    let carry = flag((a as u16) + (b as u16) > 255);
-    Effect::Flagged(x, std::num::wrapping_add_u8(a, b), carry)
+    let (sum, carry) = a.overflowing_add(b);
+    Effect::Flagged(x, sum, u8::from(carry))
 }
 
 // 8XY5, and 8XY7 with the registers exchanged
 pub fn minus(x: u8, a: u8, b: u8) -> Effect
     ensures { result ≡ Flagged x ((a + 256 - b) % 256) (pick (nat_le b a) 1 0) }
 {
-    Effect::Flagged(x, std::num::wrapping_sub_u8(a, b), flag(b <= a))
+    Effect::Flagged(x, a.wrapping_sub(b), u8::from(b <= a))
 }
 
 // 8XY6
 pub fn halved(x: u8, b: u8) -> Effect
     ensures { result ≡ Flagged x (b / 2) (pick (is_one 0 b) 1 0) }
 {
-    Effect::Flagged(x, b / 2, flag(b % 2 == 1))
+    Effect::Flagged(x, b / 2, u8::from(b % 2 == 1))
 }
 
 // 8XYE
 pub fn doubled(x: u8, b: u8) -> Effect
     ensures { result ≡ Flagged x (2 * b % 256) (pick (is_one 7 b) 1 0) }
 {
-    let twice = (2 * (b as u16) % 256) as u8;
-    Effect::Flagged(x, twice, flag(b / 128 % 2 == 1))
+    Effect::Flagged(x, b.wrapping_mul(2), u8::from(b / 128 % 2 == 1))
 }
 
 // ---- the effect, written
 
-fn jump(c: Core, a: u16) -> Core
+fn jump(mut c: Core, a: u16) -> Core
     ensures { (v stack : List ℕ) → whole result v stack ≡ with_pc a (whole c v stack) }
 {
-    let mut c = c;
     c.pc = a;
     c
 }
 
 // The timers are set, and PC goes on.
-fn set_timers(c: Core, delay: u8, tone: u8) -> Core
+fn set_timers(mut c: Core, delay: u8, tone: u8) -> Core
     requires { c.pc ≤ 4094 }
     ensures { (v stack : List ℕ) → whole result v stack ≡ state.onward
         (with_timers (record { delay = delay; tone = tone }) (whole c v stack)) }
 {
-    let mut c = c;
-    let t = Timers { delay, tone };
-    c.timers = t;
+    c.timers = Timers { delay, tone };
     c.pc += 2;
     c
 }

@@ -1,7 +1,7 @@
 // The parts of a record as bytes and numbers, before they are laid. The specs of `rules`, Record.antt, say what a record is.
 #![tactic(auto)]
 
-ghost use Rattle.std.specs.Prelude.{◌≡◌, [], ◌∷◌, ◌++◌, ◌-◌, ◌≤◌, ◌<◌, eqb, get_or};
+ghost use Rattle.std.specs.Prelude.{◌≡◌, [], ◌∷◌, ◌++◌, ◌-◌, ◌≤◌, eqb, get_or};
 ghost use Rattle.rules.specs.Number.{pick, word};
 ghost use Rattle.rules.specs.State.{stack_size};
 ghost use Rattle.rules.specs.Record.{held_byte, mark, start, count, inputs};
@@ -25,8 +25,7 @@ fn start_of(c: Change) -> u16
 {
     match c {
         Change::Nothing => 0,
-        Change::InMemory(s, _) => s,
-        Change::InPicture(s, _) => s,
+        Change::InMemory(start, _) | Change::InPicture(start, _) => start,
     }
 }
 
@@ -35,8 +34,7 @@ pub fn count_of(c: Change) -> u16
 {
     match c {
         Change::Nothing => 0,
-        Change::InMemory(_, n) => n,
-        Change::InPicture(_, n) => n,
+        Change::InMemory(_, count) | Change::InPicture(_, count) => count,
     }
 }
 
@@ -49,49 +47,32 @@ pub fn last_return(depth: u8, stack: &[u16; Machine::STACK]) -> u16
     if above == 0 { 0 } else { stack[above - 1] }
 }
 
-// A byte is widened by a call, so that it needs no proof that it fits.
-fn wide(x: u8) -> u64
-    ensures { (result ≡ x) × (result < 256) }
-{
-    x as u64
-}
-
 // Of what lies between the variables and the old bytes, the first eight bytes as one number: I, PC, depth, the last return address and
 // the delay timer.
 pub fn first_fields(c: Core, last: u16) -> u64
     ensures { eight_of result ≡ word c.i ++ word c.pc ++ (c.depth ∷ []) ++ word last ++ (c.timers.delay ∷ []) }
 {
-    let i = memory::wide_word(c.i);
-    let pc = memory::wide_word(c.pc);
-    let depth = wide(c.depth);
-    let delay = wide(c.timers.delay);
-    i * 0x1_0000_0000_0000
-        + pc * 0x1_0000_0000
-        + depth * 0x100_0000
-        + memory::wide_word(last) * 0x100
-        + delay
+    u64::from(c.i) * 0x1_0000_0000_0000
+        + u64::from(c.pc) * 0x1_0000_0000
+        + u64::from(c.depth) * 0x100_0000
+        + u64::from(last) * 0x100
+        + u64::from(c.timers.delay)
 }
 
 // The two after them.
 pub fn tone_and_held(c: Core) -> [u8; 2]
     ensures { result ≡ c.timers.tone ∷ held_byte c.wait ∷ [] }
 {
-    let wait = c.wait;
-    [c.timers.tone, parts::held_byte(wait)]
+    [c.timers.tone, u8::from(c.wait)]
 }
 
 // And the last four, where the change lies. For a change of the state alone they are zeros.
 pub fn start_and_count(change: Change) -> [u8; 4]
     ensures { result ≡ word (start change) ++ word (count change) }
 {
-    let start = start_of(change);
-    let count = count_of(change);
-    [
-        memory::high(start),
-        memory::low(start),
-        memory::high(count),
-        memory::low(count),
-    ]
+    let [start_high, start_low] = start_of(change).to_be_bytes();
+    let [count_high, count_low] = count_of(change).to_be_bytes();
+    [start_high, start_low, count_high, count_low]
 }
 
 // What stands last: the inputs of a step and a 1, or four zeros for a tick.
@@ -99,7 +80,10 @@ pub fn inputs_of(action: Action) -> [u8; 4]
     ensures { result ≡ inputs action }
 {
     match action {
-        Action::Step(keys, random) => [memory::high(keys), memory::low(keys), random, 1],
+        Action::Step(keys, random) => {
+            let [high, low] = keys.to_be_bytes();
+            [high, low, random, 1]
+        }
         Action::Tick => [0; 4],
     }
 }

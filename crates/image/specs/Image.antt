@@ -1,14 +1,11 @@
 -- The image of a state: 64 bytes, numbers with their high byte first.
 use Rattle.std.specs.Prelude.{◌≡◌, Bool, true, ◌&&◌, List, [], ◌∷◌, ◌++◌, ℕ, ◌+◌, ◌<◌, get_or, length, drop, replicate, eqb, leb}
-use Rattle.rules.specs.declared.Edition.{Edition}
-use Rattle.rules.specs.declared.Edition.TheVariants.{First, Second}
 use Rattle.rules.specs.declared.Machine.{Machine}
 use Rattle.rules.specs.declared.Trail.{Trail}
-use Rattle.rules.specs.declared.Wait.{Wait}
-use Rattle.rules.specs.declared.Wait.TheVariants.{Idle, Held}
 use Rattle.rules.specs.Number.{pick, word}
 use Rattle.rules.specs.State.{zeros, sound}
 use Rattle.rules.specs.Memory.{part}
+pub use Rattle.rules.specs.Byte.{edition_byte, edition_of, wait_of}
 use Rattle.rules.specs.Record.{byte_at, word_at, held_byte}
 use Rattle.rules.specs.Typed.{Below, TypedMachine}
 
@@ -34,10 +31,6 @@ numbers t = word t.next ++ word t.kept
 
 -- 52: the edition, 0 for the first and 1 for the second; 54: ahead; 56: the number of lit spots; 58: the end of memory; and zeros, kept for
 -- what is to come
-abbrev pub edition_byte : Edition → ℕ
-edition_byte First = 0
-edition_byte Second = 1
-
 abbrev pub tail : Machine → Trail → List ℕ
 tail m t = (edition_byte m.edition ∷ 0 ∷ []) ++ word t.ahead ++ word m.lit ++ word m.end ++ replicate 4 0
 
@@ -46,16 +39,10 @@ image_of m t = m.v ++ middle m ++ six_from 0 m.stack ++ six_from 6 m.stack ++ nu
 
 -- ---- from an image to the state that it stands for
 
-abbrev pub wait_of : ℕ → Wait
-wait_of b = pick (eqb b 0xFF) Idle (Held b)
-
 abbrev pub stack_of : List ℕ → List ℕ
 stack_of b =
     word_at b 24 ∷ word_at b 26 ∷ word_at b 28 ∷ word_at b 30 ∷ word_at b 32 ∷ word_at b 34
     ∷ word_at b 36 ∷ word_at b 38 ∷ word_at b 40 ∷ word_at b 42 ∷ word_at b 44 ∷ word_at b 46 ∷ []
-
-abbrev pub edition_of : ℕ → Edition
-edition_of b = pick (eqb b 1) Second First
 
 -- an image is in order if its edition is one of the two and the bytes that are kept are 0
 abbrev pub in_order : List ℕ → Bool

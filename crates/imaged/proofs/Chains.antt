@@ -11,7 +11,8 @@ use Rattle.rules.specs.declared.Edition.{Edition}
 use Rattle.rules.specs.declared.Edition.TheVariants.{First}
 use Rattle.rules.specs.declared.Machine.{Machine}
 use Rattle.rules.specs.declared.Trail.{Trail}
-use Rattle.rules.specs.declared.Outcome.{Outcome}
+use Rattle.std.specs.Prelude.{Result, ⊤}
+use Rattle.rules.specs.declared.Refusal.{Refusal}
 use Rattle.rules.specs.Number.{unless}
 use Rattle.rules.specs.State.{sound, fresh}
 use Rattle.rules.specs.Record.{byte_at, word_at, action_at}
@@ -28,7 +29,7 @@ use Rattle.rules.proofs.Sound.{good_sound}
 use Rattle.rules.proofs.Load.{end_in_use, fresh_typed}
 use Rattle.rules.proofs.Ready.{Ready, tests_ready, ready_typed, next_below, stepped_ready, undone_ready, redone_ready}
 use Rattle.rules.proofs.Stays.{play_lasts, run_lasts}
-use Rattle.image.specs.Image.{image_of, edition_of, machine_of, trail_of, Storable}
+use Rattle.image.specs.Image.{image_of, edition_of, machine_of, Storable}
 use Rattle.image.proofs.ReadsBack.{comes_back}
 use Rattle.imaged.specs.Imaged.{world_of, shown, load_by, whole, played_on, standing, Leaves, Lent, Chains}
 use Rattle.imaged.proofs.Laws.{run_left, play_left}
@@ -186,7 +187,7 @@ module _ (img mem pic his : List ℕ) (lent : Lent img mem pic his) where
 
 -- what stands in the bytes after a play is what the library's play gave, state and numbers by value
 pub play_stands : (moves keys randoms img mem pic his : List ℕ) → Lent img mem pic his
-    → (n : ℕ) (o : Outcome) (m : Machine) (t : Trail) (img' mem' pic' his' : List ℕ)
+    → (n : ℕ) (o : Result ⊤ Refusal) (m : Machine) (t : Trail) (img' mem' pic' his' : List ℕ)
     → Gives (play moves keys randoms (world_of img mem pic his)) o m t mem' pic' his'
     → Leaves (played_on moves keys randoms img mem pic his) n img' mem' pic' his'
     → world_of img' mem' pic' his' ≡ world m t mem' pic' his'

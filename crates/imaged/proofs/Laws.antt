@@ -8,7 +8,8 @@ use lib.Dec.{eqb, leb}
 use borrow.Author.Tests.{ne_eqb}
 use Rattle.rules.specs.declared.Machine.{Machine}
 use Rattle.rules.specs.declared.Trail.{Trail}
-use Rattle.rules.specs.declared.Outcome.{Outcome}
+use Rattle.std.specs.Prelude.{Result}
+use Rattle.rules.specs.declared.Refusal.{Refusal}
 use Rattle.rules.specs.Number.{pick}
 use Rattle.rules.specs.Refusal.{number}
 use Rattle.rules.specs.State.{sound}
@@ -25,7 +26,7 @@ use Rattle.image.proofs.ReadsBack.{reads_back}
 use Rattle.imaged.specs.Imaged.{world_of, shown, Leaves}
 
 -- written anew where the number of its outcome says so, and else left
-pub seen : (anew : ℕ → Bool) (a : Answer) (image : List ℕ) (n : ℕ) (o : Outcome) (m : Machine) (t : Trail) (img mem pic his : List ℕ)
+pub seen : (anew : ℕ → Bool) (a : Answer) (image : List ℕ) (n : ℕ) {A : Type 0} (o : Result A Refusal) (m : Machine) (t : Trail) (img mem pic his : List ℕ)
     → Gives a o m t mem pic his → n ≡ number o → img ≡ pick (anew (number o)) (image_of m t) image
     → Leaves (shown (anew a.refusal) image a) n img mem pic his
 seen anew a image n o m t img mem pic his g e w =
@@ -92,7 +93,7 @@ module _ (image memory picture history : List ℕ) (size : length image ≡ 64) 
       refused : (own ≡ 0 → ⊥) → img ≡ image
       refused ne = unchanged ne (in_order image) refl w
 
-  pub seen_list : (n : ℕ) (o : Outcome) (m : Machine) (t : Trail) (img mem pic his : List ℕ)
+  pub seen_list : (n : ℕ) {A : Type 0} (o : Result A Refusal) (m : Machine) (t : Trail) (img mem pic his : List ℕ)
       → Gives a o m t mem pic his → n ≡ number o → img ≡ pick (in_order image) (image_of m t) image
       → Leaves (shown (eqb own 0) image a) n img mem pic his
   seen_list n o m t img mem pic his g e w =

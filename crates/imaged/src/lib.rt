@@ -2,7 +2,7 @@
 // gave is written back. A run and a play stand in `imaged_lists`.
 #![tactic(auto)]
 
-ghost use Rattle.std.specs.Prelude.{◌≡◌, true, List, ℕ, eqb, length};
+ghost use Rattle.std.specs.Prelude.{◌≡◌, true, List, ℕ, eqb};
 ghost use Rattle.rules.specs.declared.Edition.TheVariants.{First};
 ghost use Rattle.rules.specs.Number.{pick, unless};
 ghost use Rattle.rules.specs.State.{fresh};
@@ -12,12 +12,15 @@ ghost use Rattle.rules.specs.Load as rules_load;
 ghost use Rattle.rules.specs.Call as rules_call;
 ghost use Rattle.rules.specs.Dark.{step_dark};
 ghost use Rattle.rules.specs.Rows.{bytes_of};
-ghost use Rattle.image.specs.Image.{image_size, image_of};
+ghost use Rattle.image.specs.Image.{image_of};
 ghost use Rattle.imaged.specs.Imaged.{world_of, shown, load_by, whole, Leaves};
 
+use image::{IMAGE, Standing};
+use parts::Answer;
 use rules::{Edition, Machine, Trail};
 
-// What a step tells besides the bytes: the refusal number or 0, whether it was accepted, and the lit spots that it darkened.
+// What a step tells besides the bytes, in the numbers of C: the refusal number or 0, whether it was accepted, and the lit spots that it
+// darkened.
 #[derive(Clone, Copy)]
 pub struct Told {
     pub number: u32,
@@ -32,28 +35,29 @@ fn load_known(
     edition: Edition,
     end: u16,
     program: &[u8],
-    image: &mut [u8],
+    image: &mut [u8; IMAGE],
     memory: &mut [u8],
     rows: &mut [u64],
     history: &mut [u8],
 ) -> u32
-    requires { length image.old ≡ image_size }
     ensures { Leaves
         (shown true image.old
         (rules_load.load edition end program.now memory.old (bytes_of rows.old) history.old)) result
         image.new memory.new (bytes_of rows.new) history.new }
 {
     let answer = chip8::load(edition, end, program, memory, rows, history);
-    let m = answer.machine;
-    let t = answer.trail;
-    image_writing::write(image, m, t);
-    let outcome = answer.outcome;
-    image_after::number(outcome)
+    image_writing::write(image, answer.machine, answer.trail);
+    image_after::number(answer.outcome)
 }
 
 // An edition that there is not: 9 comes before 10, and the fresh image is of the first edition.
-fn load_unknown(end: u16, image: &mut [u8], memory: &[u8], rows: &[u64], history: &[u8]) -> u32
-    requires { length image.old ≡ image_size }
+fn load_unknown(
+    end: u16,
+    image: &mut [u8; IMAGE],
+    memory: &[u8],
+    rows: &[u64],
+    history: &[u8],
+) -> u32
     ensures { (result ≡ unless (sizes_fit memory.now (bytes_of rows.now) history.now) 9 10)
         × (image.new ≡ image_of (fresh First (end_of end)) fresh_trail) }
 {
@@ -78,12 +82,11 @@ pub fn load(
     program: &[u8],
     edition: u8,
     end: u16,
-    image: &mut [u8],
+    image: &mut [u8; IMAGE],
     memory: &mut [u8],
     rows: &mut [u64],
     history: &mut [u8],
 ) -> u32
-    requires { length image.old ≡ image_size }
     ensures { Leaves
         (shown true image.old
         (load_by edition end program.now memory.old (bytes_of rows.old) history.old)) result
@@ -103,16 +106,25 @@ pub fn load(
     )
 }
 
+fn told_by(number: u32, dark: usize) -> Told
+    ensures { (result.number ≡ number) × (result.accepted ≡ pick (eqb number 0) 1 0) × (result.dark ≡ dark) }
+{
+    Told {
+        number,
+        accepted: image_after::accepted_by(number),
+        dark: dark as u64,
+    }
+}
+
 // The image is written here and not by `after_call`, for which the whole state would be copied once more.
 pub fn step(
-    image: &mut [u8],
+    image: &mut [u8; IMAGE],
     memory: &mut [u8],
     rows: &mut [u64],
     history: &mut [u8],
     keys: u16,
     random: u8,
 ) -> Told
-    requires { length image.old ≡ image_size }
     ensures leaves { Leaves
         (whole image.old
         (rules_call.step keys random
@@ -121,58 +133,90 @@ pub fn step(
     ensures accepted_value { (result.accepted ≡ pick (eqb result.number 0) 1 0) × (result.dark ≡ step_dark
         (world_of image.old memory.old (bytes_of rows.old) history.old)) }
 {
-    let before = image::read(image);
-    let m = before.machine;
-    let t = before.trail;
-    let stepped = chip8::step(m, t, memory, rows, history, keys, random);
-    let outcome = stepped.outcome;
-    let n = image_after::number(outcome);
-    if n == 0 {
-        let machine = stepped.machine;
-        let trail = stepped.trail;
-        image_writing::write(image, machine, trail);
-    }
-    Told {
-        number: n,
-        accepted: image_after::accepted_by(n),
-        dark: stepped.dark as u64,
+    let Standing {
+        mut machine,
+        mut trail,
+    } = image::read(image);
+    match chip8::step(
+        &mut machine,
+        &mut trail,
+        memory,
+        rows,
+        history,
+        keys,
+        random,
+    ) {
+        Ok(dark) => {
+            image_writing::write(image, machine, trail);
+            told_by(0, dark)
+        }
+        Err(why) => told_by(u32::from(u8::from(why)), 0),
     }
 }
 
-pub fn tick(image: &mut [u8], history: &mut [u8]) -> u32
-    requires { length image.old ≡ image_size }
+pub fn tick(image: &mut [u8; IMAGE], history: &mut [u8]) -> u32
     ensures { (memory picture : List ℕ) → Leaves
         (whole image.old (rules_call.tick (world_of image.old memory picture history.old))) result
         image.new memory picture history.new }
 {
-    let before = image::read(image);
-    let m = before.machine;
-    let t = before.trail;
-    image_after::after_call(image, chip8::tick(m, t, history))
+    let Standing {
+        mut machine,
+        mut trail,
+    } = image::read(image);
+    let outcome = chip8::tick(&mut machine, &mut trail, history);
+    image_after::after_call(
+        image,
+        Answer {
+            outcome,
+            machine,
+            trail,
+        },
+    )
 }
 
-pub fn back(image: &mut [u8], memory: &mut [u8], rows: &mut [u64], history: &[u8]) -> u32
-    requires { length image.old ≡ image_size }
+pub fn back(image: &mut [u8; IMAGE], memory: &mut [u8], rows: &mut [u64], history: &[u8]) -> u32
     ensures { Leaves
         (whole image.old
         (rules_call.back (world_of image.old memory.old (bytes_of rows.old) history.now))) result
         image.new memory.new (bytes_of rows.new) history.now }
 {
-    let before = image::read(image);
-    let m = before.machine;
-    let t = before.trail;
-    image_after::after_call(image, chip8::back(m, t, memory, rows, history))
+    let Standing {
+        mut machine,
+        mut trail,
+    } = image::read(image);
+    let outcome = chip8::back(&mut machine, &mut trail, memory, rows, history);
+    image_after::after_call(
+        image,
+        Answer {
+            outcome,
+            machine,
+            trail,
+        },
+    )
 }
 
-pub fn forward(image: &mut [u8], memory: &mut [u8], rows: &mut [u64], history: &mut [u8]) -> u32
-    requires { length image.old ≡ image_size }
+pub fn forward(
+    image: &mut [u8; IMAGE],
+    memory: &mut [u8],
+    rows: &mut [u64],
+    history: &mut [u8],
+) -> u32
     ensures { Leaves
         (whole image.old
         (rules_call.forward (world_of image.old memory.old (bytes_of rows.old) history.old))) result
         image.new memory.new (bytes_of rows.new) history.new }
 {
-    let before = image::read(image);
-    let m = before.machine;
-    let t = before.trail;
-    image_after::after_call(image, chip8::forward(m, t, memory, rows, history))
+    let Standing {
+        mut machine,
+        mut trail,
+    } = image::read(image);
+    let outcome = chip8::forward(&mut machine, &mut trail, memory, rows, history);
+    image_after::after_call(
+        image,
+        Answer {
+            outcome,
+            machine,
+            trail,
+        },
+    )
 }

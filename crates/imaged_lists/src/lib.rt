@@ -2,19 +2,19 @@
 // written back.
 #![tactic(auto)]
 
-ghost use Rattle.std.specs.Prelude.{◌≡◌, length};
+ghost use Rattle.std.specs.Prelude.{◌≡◌};
 ghost use Rattle.rules.specs.Run as rules_run;
 ghost use Rattle.rules.specs.Dark.{run_dark};
 ghost use Rattle.rules.specs.Copied.{run_copied};
 ghost use Rattle.rules.specs.Past.{PlayTells};
 ghost use Rattle.rules.specs.Rows.{bytes_of};
-ghost use Rattle.image.specs.Image.{image_size};
 ghost use Rattle.imaged.specs.Imaged.{world_of, ran_on, played_on, Leaves};
 
+use image::{IMAGE, Standing};
 use parts::Answer;
 
-// What a run tells besides the bytes: the refusal number or 0, the accepted steps, the lit spots that they darkened, and the bytes that their
-// records keep.
+// What a run tells besides the bytes, in the numbers of C: the refusal number or 0, the accepted steps, the lit spots that they darkened, and the
+// bytes that their records keep.
 #[derive(Clone, Copy)]
 pub struct Told {
     pub number: u32,
@@ -24,7 +24,7 @@ pub struct Told {
 }
 
 pub fn run(
-    image: &mut [u8],
+    image: &mut [u8; IMAGE],
     memory: &mut [u8],
     rows: &mut [u64],
     history: &mut [u8],
@@ -32,7 +32,6 @@ pub fn run(
     keys: &[u16],
     randoms: &[u8],
 ) -> Told
-    requires { length image.old ≡ image_size }
     ensures leaves { Leaves
         (ran_on ticks.now keys.now randoms.now image.old memory.old
         (bytes_of rows.old) history.old) result.number image.new memory.new (bytes_of rows.new)
@@ -44,23 +43,30 @@ pub fn run(
         × (result.copied ≡ run_copied ticks.now keys.now randoms.now
         (world_of image.old memory.old (bytes_of rows.old) history.old)) }
 {
-    let before = image::read(image);
-    let m = before.machine;
-    let t = before.trail;
-    let ran = chip8::run(m, t, memory, rows, history, ticks, keys, randoms);
-    let outcome = ran.outcome;
-    let machine = ran.machine;
-    let trail = ran.trail;
-    let n = image_after::after_list(
-        image,
-        Answer {
-            outcome,
-            machine,
-            trail,
-        },
+    let Standing {
+        mut machine,
+        mut trail,
+    } = image::read(image);
+    let ran = chip8::run(
+        &mut machine,
+        &mut trail,
+        memory,
+        rows,
+        history,
+        ticks,
+        keys,
+        randoms,
     );
+    let outcome = ran.outcome;
     Told {
-        number: n,
+        number: image_after::after_list(
+            image,
+            Answer {
+                outcome,
+                machine,
+                trail,
+            },
+        ),
         accepted: ran.accepted as u64,
         dark: ran.dark as u64,
         copied: ran.copied as u64,
@@ -68,7 +74,7 @@ pub fn run(
 }
 
 pub fn play(
-    image: &mut [u8],
+    image: &mut [u8; IMAGE],
     memory: &mut [u8],
     rows: &mut [u64],
     history: &mut [u8],
@@ -76,7 +82,6 @@ pub fn play(
     keys: &[u16],
     randoms: &[u8],
 ) -> u32
-    requires { length image.old ≡ image_size }
     ensures leaves { Leaves
         (played_on moves.now keys.now randoms.now image.old memory.old
         (bytes_of rows.old) history.old) result image.new memory.new (bytes_of rows.new)
@@ -85,9 +90,26 @@ pub fn play(
         (world_of image.old memory.old (bytes_of rows.old) history.old)
         (world_of image.new memory.new (bytes_of rows.new) history.new) }
 {
-    let before = image::read(image);
-    let m = before.machine;
-    let t = before.trail;
-    let answer = chip8::play(m, t, memory, rows, history, moves, keys, randoms);
-    image_after::after_list(image, answer)
+    let Standing {
+        mut machine,
+        mut trail,
+    } = image::read(image);
+    let outcome = chip8::play(
+        &mut machine,
+        &mut trail,
+        memory,
+        rows,
+        history,
+        moves,
+        keys,
+        randoms,
+    );
+    image_after::after_list(
+        image,
+        Answer {
+            outcome,
+            machine,
+            trail,
+        },
+    )
 }

@@ -8,9 +8,8 @@ use lib.ListN.{length}
 use lib.Dec.{eqb}
 use borrow.Author.Tests.{ne_eqb}
 use Rattle.rules.specs.declared.Machine.{Machine}
-use Rattle.rules.specs.declared.Outcome.{Outcome}
 use Rattle.rules.specs.Number.{pick}
-use Rattle.rules.specs.Refusal.{number}
+use Rattle.rules.specs.Refusal.{Outcome, number}
 use Rattle.rules.specs.State.{sound}
 use Rattle.rules.specs.Run.{lists_fit}
 use Rattle.rules.specs.Typed.{Below}

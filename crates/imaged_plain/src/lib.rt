@@ -2,13 +2,13 @@
 // written back. Next, kept and ahead of the image are written as they were read.
 #![tactic(auto)]
 
-ghost use Rattle.std.specs.Prelude.{◌≡◌, length};
-ghost use Rattle.image.specs.Image.{image_size};
+ghost use Rattle.std.specs.Prelude.{◌≡◌};
 ghost use Rattle.imaged_plain.specs.PlainOn.{plain_of, plain_on, LeavesPlain};
 
+use image::{IMAGE, Standing};
 use parts::Answer;
 
-// What a run tells besides the bytes: the refusal number or 0, and the accepted steps.
+// What a run tells besides the bytes, in the numbers of C: the refusal number or 0, and the accepted steps.
 #[derive(Clone, Copy)]
 pub struct Told {
     pub number: u32,
@@ -16,36 +16,31 @@ pub struct Told {
 }
 
 pub fn run(
-    image: &mut [u8],
+    image: &mut [u8; IMAGE],
     memory: &mut [u8],
     spots: &mut [u8],
     ticks: &[u8],
     keys: &[u16],
     randoms: &[u8],
 ) -> Told
-    requires { length image.old ≡ image_size }
     ensures leaves_plain { LeavesPlain
         (plain_on ticks.now keys.now randoms.now image.old memory.old spots.old)
         result.number image.new memory.new spots.new }
     ensures accepted_value { result.accepted ≡ (plain_of ticks.now keys.now randoms.now image.old
         memory.old spots.old).accepted }
 {
-    let before = image::read(image);
-    let m = before.machine;
-    let trail = before.trail;
-    let ran = plain::run(m, memory, spots, ticks, keys, randoms);
+    let Standing { mut machine, trail } = image::read(image);
+    let ran = plain::run(&mut machine, memory, spots, ticks, keys, randoms);
     let outcome = ran.outcome;
-    let machine = ran.machine;
-    let n = image_after::after_list(
-        image,
-        Answer {
-            outcome,
-            machine,
-            trail,
-        },
-    );
     Told {
-        number: n,
+        number: image_after::after_list(
+            image,
+            Answer {
+                outcome,
+                machine,
+                trail,
+            },
+        ),
         accepted: ran.accepted as u64,
     }
 }

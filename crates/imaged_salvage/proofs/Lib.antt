@@ -1,3 +1,2 @@
--- What a salvage gave, seen through the image.
-pub mod Seen
+-- What is claimed of a salvage beside an image, proved.
 pub mod Chains

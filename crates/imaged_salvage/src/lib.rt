@@ -2,13 +2,13 @@
 // numbers are written back.
 #![tactic(auto)]
 
-ghost use Rattle.std.specs.Prelude.{◌≡◌, length};
-ghost use Rattle.image.specs.Image.{image_size};
+ghost use Rattle.std.specs.Prelude.{◌≡◌};
 ghost use Rattle.imaged_salvage.specs.Salvaged.{salvage_of, LeavesSalvage};
 
-use parts::Answer;
+use image::{IMAGE, Standing};
+use salvage::Salvaged;
 
-// What a salvage tells besides what it is lent: the refusal number or 0, the records kept, and the places cleared.
+// What a salvage tells besides what it is lent, in the numbers of C: the refusal number or 0, the records kept, and the places cleared.
 #[derive(Clone, Copy)]
 pub struct Told {
     pub number: u32,
@@ -16,30 +16,26 @@ pub struct Told {
     pub cleared: u64,
 }
 
-pub fn salvage(image: &mut [u8], history: &mut [u8], list: &mut [u16]) -> Told
-    requires { length image.old ≡ image_size }
+pub fn salvage(image: &mut [u8; IMAGE], history: &mut [u8], list: &mut [u16]) -> Told
     ensures leaves_salvage { LeavesSalvage image.old (salvage_of image.old history.old list.old)
         result.number image.new history.new list.new }
     ensures kept_value { (result.kept ≡ (salvage_of image.old history.old list.old).kept)
         × (result.cleared ≡ (salvage_of image.old history.old list.old).cleared) }
 {
-    let before = image::read(image);
-    let machine = before.machine;
-    let t = before.trail;
-    let salvaged = salvage::salvage(machine, t, history, list);
-    let outcome = salvaged.outcome;
-    let trail = salvaged.trail;
-    let n = image_after::after_call(
-        image,
-        Answer {
-            outcome,
-            machine,
-            trail,
+    let Standing { machine, mut trail } = image::read(image);
+    match salvage::salvage(machine, &mut trail, history, list) {
+        Ok(Salvaged { kept, cleared }) => {
+            image_writing::write(image, machine, trail);
+            Told {
+                number: 0,
+                kept: kept as u64,
+                cleared: cleared as u64,
+            }
+        }
+        Err(why) => Told {
+            number: u32::from(u8::from(why)),
+            kept: 0,
+            cleared: 0,
         },
-    );
-    Told {
-        number: n,
-        kept: salvaged.kept as u64,
-        cleared: salvaged.cleared as u64,
     }
 }

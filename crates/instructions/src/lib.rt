@@ -19,7 +19,7 @@ fn effect_of(s: Simple, c: Core, v: &[u8; 16], keys: u16, random: u8) -> Effect
 {
     match s {
         Simple::Jump(a) => Effect::Next(a),
-        Simple::JumpFrom(a) => Effect::Next(a % 4096 + (get(v, 0) as u16)),
+        Simple::JumpFrom(a) => Effect::Next(a % 4096 + u16::from(get(v, 0))),
         Simple::SkipEqual(x, kk) => effects::skip(c.pc, get(v, x) == kk, 4, 2),
         Simple::SkipDiffers(x, kk) => effects::skip(c.pc, get(v, x) == kk, 2, 4),
         Simple::SkipSame(x, y) => effects::skip(c.pc, get(v, x) == get(v, y), 4, 2),
@@ -27,7 +27,7 @@ fn effect_of(s: Simple, c: Core, v: &[u8; 16], keys: u16, random: u8) -> Effect
         Simple::SkipDown(x) => effects::skip(c.pc, registers::down(keys, get(v, x) % 16), 4, 2),
         Simple::SkipUp(x) => effects::skip(c.pc, registers::down(keys, get(v, x) % 16), 2, 4),
         Simple::Put(x, kk) => Effect::Result(x, kk),
-        Simple::Add(x, kk) => Effect::Result(x, std::num::wrapping_add_u8(get(v, x), kk)),
+        Simple::Add(x, kk) => Effect::Result(x, get(v, x).wrapping_add(kk)),
         Simple::Chance(x, kk) => Effect::Result(x, random & kk),
         Simple::Copy(x, y) => Effect::Result(x, get(v, y)),
         Simple::Or(x, y) => Effect::Flagged(x, get(v, x) | get(v, y), 0),
@@ -39,8 +39,8 @@ fn effect_of(s: Simple, c: Core, v: &[u8; 16], keys: u16, random: u8) -> Effect
         Simple::MinusFrom(x, y) => effects::minus(x, get(v, y), get(v, x)),
         Simple::Double(x, y) => effects::doubled(x, get(v, y)),
         Simple::Index(a) => Effect::Index(a),
-        Simple::AddIndex(x) => Effect::Index(std::num::wrapping_add_u16(c.i, get(v, x) as u16)),
-        Simple::Digit(x) => Effect::Index(5 * ((get(v, x) % 16) as u16)),
+        Simple::AddIndex(x) => Effect::Index(c.i.wrapping_add(u16::from(get(v, x)))),
+        Simple::Digit(x) => Effect::Index(5 * u16::from(get(v, x) % 16)),
         Simple::FromDelay(x) => Effect::Result(x, c.timers.delay),
         Simple::ToDelay(x) => Effect::Clock(get(v, x), c.timers.tone),
         Simple::ToTone(x) => Effect::Clock(c.timers.delay, get(v, x)),

@@ -3,7 +3,7 @@
 
 ghost use Rattle.std.specs.Prelude.{◌≡◌, List, ℕ, ◌+◌, ◌-◌, ◌*◌, ◌≤◌, length, take, replicate};
 ghost use Rattle.keeping.specs.Writable.{blank, Reaches};
-ghost use Rattle.rules.specs.Memory.{over};
+ghost use Rattle.rules.specs.Memory.{part, over};
 ghost use Rattle.rules.specs.State.{stack_size};
 ghost use Rattle.rules.specs.declared.Change.TheVariants.{Nothing};
 ghost use Rattle.rules.specs.Record.{place_size, at_v, at_i, at_start, at_old, at_keys, count, old, fields};
@@ -46,9 +46,17 @@ pub const AT_RANDOM: usize = 290;
 
 pub const AT_KIND: usize = 291;
 
+// The place p of a history.
+pub fn place(history: &[u8], p: usize) -> &[u8; PLACE]
+    requires { place_size * p + place_size ≤ length history.now }
+    ensures { result.now ≡ part history.now (place_size * p) place_size }
+{
+    history[PLACE * p..].first_chunk().unwrap()
+}
+
 // What lies between the variables and the old bytes, but for the last four. Byte by byte it would take nearly as many stores as all the zeros.
-fn lay_state(place: &mut [u8], c: Core, stack: &[u16; Machine::STACK])
-    requires { (length place.old ≡ place_size) × (c.depth ≤ stack_size) }
+fn lay_state(place: &mut [u8; PLACE], c: Core, stack: &[u16; Machine::STACK])
+    requires { c.depth ≤ stack_size }
     ensures { (v : List ℕ) (change : Change) → place.new ≡ over place.old at_i
         (take (at_start - at_i) (fields (whole c v stack.now) change)) (at_start - at_i) }
 {
@@ -59,8 +67,8 @@ fn lay_state(place: &mut [u8], c: Core, stack: &[u16; Machine::STACK])
 }
 
 // All of it: the last four are the start and the count of the change.
-fn lay_fields(place: &mut [u8], c: Core, stack: &[u16; Machine::STACK], change: Change)
-    requires { (length place.old ≡ place_size) × (c.depth ≤ stack_size) }
+fn lay_fields(place: &mut [u8; PLACE], c: Core, stack: &[u16; Machine::STACK], change: Change)
+    requires { c.depth ≤ stack_size }
     ensures { (v : List ℕ) → place.new ≡ over place.old at_i (fields (whole c v stack.now) change) 14 }
 {
     lay_state(place, c, stack);
@@ -69,37 +77,36 @@ fn lay_fields(place: &mut [u8], c: Core, stack: &[u16; Machine::STACK], change: 
 }
 
 // The variables. They come by value, so that they can't lie where the record is written, and sixteen bytes are copied at once.
-fn lay_variables(place: &mut [u8], v: [u8; 16])
-    requires { length place.old ≡ place_size }
+fn lay_variables(place: &mut [u8; PLACE], v: [u8; 16])
     ensures { place.new ≡ over place.old at_v v 16 }
 {
     memory::lay(place, AT_V, &v);
 }
 
-// So many zeros from a byte of the place on.
-fn zeros(place: &mut [u8], from: usize, count: usize)
-    requires { (length place.old ≡ place_size) × (from + count ≤ place_size) }
-    ensures { place.new ≡ over place.old from (replicate count 0) count }
+// N zeros from a byte of the place on.
+fn zeros<const N: usize>(place: &mut [u8; PLACE], from: usize)
+    requires { from + N ≤ place_size }
+    ensures { place.new ≡ over place.old from (replicate N 0) N }
 {
-    memory::clear(&mut place[from..from + count], 0);
+    place[from..from + N].copy_from_slice(&[0; N]);
 }
 
 // Zeros up to the inputs, from the old bytes on or from the start on. The compiler lays sixteen at a time, and a quarter of them would reach
 // over a line of the cache, since no sixteen bytes of most places begin at a multiple of sixteen. So the middle ones begin `skew` bytes behind
 // the old bytes' first, where they do. A skew is at most twelve, so the first sixteen reach that far even if they begin four bytes earlier.
-fn clear_from(place: &mut [u8], from: usize, skew: usize)
-    requires { (length place.old ≡ place_size) × (at_start ≤ from) × (from ≤ at_old) × (skew ≤ 12) }
+fn clear_from(place: &mut [u8; PLACE], from: usize, skew: usize)
+    requires { (at_start ≤ from) × (from ≤ at_old) × (skew ≤ 12) }
     ensures { place.new ≡ over place.old from (replicate (at_keys - from) 0) (at_keys - from) }
 {
-    zeros(place, from, 16);
-    zeros(place, AT_OLD + skew, 240);
-    zeros(place, AT_OLD + 240, 16);
+    zeros::<16>(place, from);
+    zeros::<240>(place, AT_OLD + skew);
+    zeros::<16>(place, AT_OLD + 240);
 }
 
 // Fills a place with a record that has zeros where the old bytes will stand, so that the clearing has a fixed length. The variables come
 // last: to read sixteen bytes at once must wait for a byte among them that was just written.
 fn write(
-    place: &mut [u8],
+    place: &mut [u8; PLACE],
     skew: usize,
     c: Core,
     v: &[u8; 16],
@@ -107,7 +114,7 @@ fn write(
     change: Change,
     action: Action,
 )
-    requires { (length place.old ≡ place_size) × (skew ≤ 12) × (c.depth ≤ stack_size) }
+    requires { (skew ≤ 12) × (c.depth ≤ stack_size) }
     ensures { place.new ≡ blank (whole c v.now stack.now) change action }
 {
     let mark = fields::mark_of(change);
@@ -119,16 +126,17 @@ fn write(
     lay_variables(place, *v);
 }
 
-// The same for a record of no change, whose start and count are cleared with the old bytes.
+// The same for a record of no change, whose start and count are cleared with the old bytes. It is a function of its own: where one function takes
+// both ways, by its change, a record of a change that is known only as it runs took 204 instructions in place of 170.
 fn write_state(
-    place: &mut [u8],
+    place: &mut [u8; PLACE],
     skew: usize,
     c: Core,
     v: &[u8; 16],
     stack: &[u16; Machine::STACK],
     action: Action,
 )
-    requires { (length place.old ≡ place_size) × (skew ≤ 12) × (c.depth ≤ stack_size) }
+    requires { (skew ≤ 12) × (c.depth ≤ stack_size) }
     ensures { place.new ≡ blank (whole c v.now stack.now) Nothing action }
 {
     let mark = fields::mark_of(Change::Nothing);
@@ -154,23 +162,17 @@ pub fn keep(
     ensures { history.new ≡ over history.old (place_size * next)
         (blank (whole c v.now stack.now) change action) place_size }
 {
-    let at = PLACE * next;
     // From the old bytes of this place on, so many bytes lead to the next multiple of sixteen in the history.
     let skew = 12 * next % 16;
-    write(
-        &mut history[at..at + PLACE],
-        skew,
-        c,
-        v,
-        stack,
-        change,
-        action,
-    );
+    let (_, rest) = history.split_at_mut(PLACE * next);
+    let place = rest.first_chunk_mut().unwrap();
+    write(place, skew, c, v, stack, change, action);
 }
 
-// Lays the bytes that are about to change into a place: a part of memory, or whole rows, straight from where they stand.
-fn lay_old(place: &mut [u8], change: Change, memory: &[u8], rows: &[u64])
-    requires { (length place.old ≡ place_size) × Reaches change memory.now rows.now }
+// Lays the bytes that are about to change into a place: a part of memory, or whole rows, straight from where they stand. The rows need be
+// there only for a change of the picture, so they are a slice.
+fn lay_old(place: &mut [u8; PLACE], change: Change, memory: &[u8], rows: &[u64])
+    requires { Reaches change memory.now rows.now }
     ensures { place.new ≡ over place.old at_old
         (old change memory.now (bytes_of rows.now)) (count change) }
 {
@@ -182,6 +184,7 @@ fn lay_old(place: &mut [u8], change: Change, memory: &[u8], rows: &[u64])
             memory::lay(place, AT_OLD, &memory[from..to]);
         }
         Change::InPicture(start, count) => {
+            let rows = rows.as_array().unwrap();
             picture::lay_rows(place, AT_OLD, rows, start as usize / 8, count as usize / 8);
         }
     }
@@ -193,8 +196,9 @@ pub fn keep_old(history: &mut [u8], next: usize, change: Change, memory: &[u8], 
     ensures { history.new ≡ over history.old (place_size * next + at_old)
         (old change memory.now (bytes_of rows.now)) (count change) }
 {
-    let at = PLACE * next;
-    lay_old(&mut history[at..at + PLACE], change, memory, rows);
+    let (_, rest) = history.split_at_mut(PLACE * next);
+    let place = rest.first_chunk_mut().unwrap();
+    lay_old(place, change, memory, rows);
 }
 
 // Writes the record of an action that changes the state alone.
@@ -210,8 +214,9 @@ pub fn keep_state(
     ensures { history.new ≡ over history.old (place_size * next)
         (blank (whole c v.now stack.now) Nothing action) place_size }
 {
-    let at = PLACE * next;
     // The skew depends on the place alone, as in `keep`.
     let skew = 12 * next % 16;
-    write_state(&mut history[at..at + PLACE], skew, c, v, stack, action);
+    let (_, rest) = history.split_at_mut(PLACE * next);
+    let place = rest.first_chunk_mut().unwrap();
+    write_state(place, skew, c, v, stack, action);
 }

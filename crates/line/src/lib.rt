@@ -1,40 +1,52 @@
-// The lines of a trace, put into a buffer. Each function answers the index after its line.
+// The lines of a trace, appended to a text that has room for so many bytes.
 #![tactic(auto)]
 
-ghost use Rattle.std.specs.Prelude.{◌≡◌, ◌+◌, ◌≤◌, length};
-ghost use Rattle.text.specs.Put.{Put};
+ghost use Rattle.std.specs.Prelude.{◌≡◌, ◌++◌, ◌+◌, ◌≤◌};
+ghost use Rattle.arrayvec.specs.ArrayString.{array_string_len};
 ghost use Rattle.line.specs.Line.{header, step_line, stop_line};
 
-pub fn put_header(out: &mut [u8], at: usize) -> usize
-    requires { at + 16 ≤ length out.old }
-    ensures { Put header out.old at out.new result }
+use arrayvec::ArrayString;
+
+pub fn put_header<const N: usize>(out: &mut ArrayString<N>)
+    requires { array_string_len out.old + 16 ≤ N }
+    ensures { out.new.bytes ≡ out.old.bytes ++ header }
 {
-    text::put(out, at, b"n pc op i v0 vf\n")
+    out.push_str("n pc op i v0 vf\n");
 }
 
 // The line of an accepted step.
-pub fn put_step(out: &mut [u8], at: usize, n: u8, pc: u16, op: u16, i: u16, v0: u8, vf: u8) -> usize
-    requires { at + 25 ≤ length out.old }
-    ensures put { Put (step_line n pc op i v0 vf) out.old at out.new result }
-    ensures upper_bound { result ≤ at + 25 }
+#[tactic(auto, unfolding(crate::specs::Line::step_line))]
+pub fn put_step<const N: usize>(
+    out: &mut ArrayString<N>,
+    n: u8,
+    pc: u16,
+    op: u16,
+    i: u16,
+    v0: u8,
+    vf: u8,
+)
+    requires { array_string_len out.old + 25 ≤ N }
+    ensures bytes { out.new.bytes ≡ out.old.bytes ++ step_line n pc op i v0 vf }
+    ensures len { array_string_len out.new ≤ array_string_len out.old + 25 }
 {
-    let at = text::put_decimal(out, at, n);
-    let at = text::put_wide_hex(out, at, pc);
-    let at = text::put_wide_hex(out, at, op);
-    let at = text::put_wide_hex(out, at, i);
-    let at = text::put_hex(out, at, v0);
-    let at = text::put_hex(out, at, vf);
-    text::put(out, at, b"\n")
+    text::put_decimal(out, n);
+    text::put_wide_hex(out, pc);
+    text::put_wide_hex(out, op);
+    text::put_wide_hex(out, i);
+    text::put_hex(out, v0);
+    text::put_hex(out, vf);
+    out.push('\n');
 }
 
 // The last line: the refusal, 0 for none, and PC.
-pub fn put_stop(out: &mut [u8], at: usize, refusal: u8, pc: u16) -> usize
-    requires { at + 17 ≤ length out.old }
-    ensures { Put (stop_line refusal pc) out.old at out.new result }
+#[tactic(auto, unfolding(crate::specs::Line::stop_line))]
+pub fn put_stop<const N: usize>(out: &mut ArrayString<N>, refusal: u8, pc: u16)
+    requires { array_string_len out.old + 17 ≤ N }
+    ensures { out.new.bytes ≡ out.old.bytes ++ stop_line refusal pc }
 {
-    let at = text::put(out, at, b"stop ");
-    let at = text::put_decimal(out, at, refusal);
-    let at = text::put(out, at, b" at");
-    let at = text::put_wide_hex(out, at, pc);
-    text::put(out, at, b"\n")
+    out.push_str("stop ");
+    text::put_decimal(out, refusal);
+    out.push_str(" at");
+    text::put_wide_hex(out, pc);
+    out.push('\n');
 }

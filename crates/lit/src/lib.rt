@@ -7,21 +7,21 @@ ghost use Rattle.rules.specs.Step.{lit_after, lit_refusal};
 ghost use Rattle.lit.specs.Balance.{Balance};
 
 use picture::Spots;
-use rules::{Machine, Outcome, Refusal};
+use rules::{Machine, Refusal};
 
 // 10, where it would fall below 0 or pass 2,048. Nothing is written yet.
-pub fn late(lit: u16, spots: Spots) -> Outcome
+pub fn late(lit: u16, spots: Spots) -> Result<(), Refusal>
     requires { (spots.dark ≤ 2048) × (spots.lit ≤ 2048) }
     ensures { (p q : List ℕ) → Balance spots p q → number result ≡ lit_refusal lit p q }
 {
     let sum = lit as usize + spots.lit;
     if sum < spots.dark {
-        return Outcome::Refused(Refusal::Unsound);
+        return Err(Refusal::Unsound);
     }
     if spots.dark + Machine::SPOTS < sum {
-        return Outcome::Refused(Refusal::Unsound);
+        return Err(Refusal::Unsound);
     }
-    Outcome::Done
+    Ok(())
 }
 
 // The number after a change that keeps it in its range.

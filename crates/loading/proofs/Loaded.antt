@@ -2,15 +2,14 @@
 use mathlib.Core.Path.{◌≡◌, refl, sym, ap, ap₂, ◌∙◌}
 use mathlib.Core.List.{List, ◌++◌, append_assoc}
 use Prim.Native.Nat.{ℕ, ◌+◌, ◌-◌, ◌≤◌}
-use native.Mathlib.Nat.{sub-zero}
 use native.Mathlib.Omega.{arith}
 use lib.ListN.{length, take, drop, replicate, length-append, length-replicate, replicate-append-replicate}
 use lib.Seq.{take_at, drop-append-add}
 use Rattle.rules.specs.declared.Edition.{Edition}
 use Rattle.rules.specs.declared.Edition.TheVariants.{First}
 use Rattle.rules.specs.declared.Refusal.{Refusal}
-use Rattle.rules.specs.declared.Outcome.TheVariants.{Done, Refused}
-use Rattle.rules.specs.Refusal.{number}
+use Rattle.std.specs.Prelude.{Err, ⊤}
+use Rattle.rules.specs.Refusal.{done, number_of}
 use Rattle.rules.specs.State.{fresh}
 use Rattle.rules.specs.Memory.{over}
 use Rattle.rules.specs.Load.{digits, end_of, fresh_trail, fresh_world, loaded, loaded_memory, load, load_refusal}
@@ -65,16 +64,16 @@ load_room end program memory picture history e =
     record { memory = sizes.memory; picture = sizes.picture; short = omega (arith, short, (end_good end in_use).most) }
 
 module _ (edition : Edition) (end : ℕ) (program memory picture history : List ℕ) where
-  pub load_refused : (r : Refusal) → number (Refused r) ≡ load_refusal end program memory picture history
-      → Gives (load edition end program memory picture history) (Refused r) (fresh edition (end_of end)) fresh_trail memory picture history
+  pub load_refused : (r : Refusal) → number_of r ≡ load_refusal end program memory picture history
+      → Gives {A = ⊤} (load edition end program memory picture history) (Err r) (fresh edition (end_of end)) fresh_trail memory picture history
   unfolding load
   load_refused r e =
       given_refused (load_refusal end program memory picture history) (loaded edition end program history) (fresh_world edition end memory picture history) r e
 
   -- every spot is dark, and the history is cleared from its first byte on
   pub load_gives : load_refusal end program memory picture history ≡ 0 → (mem pic his : List ℕ) → mem ≡ loaded_memory program
-      → pic ≡ replicate 256 0 → his ≡ take 0 history ++ replicate (length history - 0) 0
-      → Gives (load edition end program memory picture history) Done (fresh edition (end_of end)) fresh_trail mem pic his
+      → pic ≡ replicate 256 0 → his ≡ replicate (length history) 0
+      → Gives (load edition end program memory picture history) done (fresh edition (end_of end)) fresh_trail mem pic his
   unfolding load
   load_gives e mem pic his em ep eh =
       rw (answered_done (load_refusal end program memory picture history) (loaded edition end program history) (fresh_world edition end memory picture history) e)
@@ -84,5 +83,5 @@ module _ (edition : Edition) (end : ℕ) (program memory picture history : List 
         trail = refl;
         memory = em;
         picture = ep;
-        history = rw sub-zero at eh;
+        history = eh;
       })

@@ -6,15 +6,14 @@ ghost use Rattle.rules.specs.Memory.{over, digits_of};
 ghost use Rattle.rules.specs.Record.{word_at};
 ghost use Rattle.rules.specs.Rows.{byte_in, eight_of};
 
-// Lays the bytes of `new` into a buffer, from `at` on.
+// Lays the bytes of `new` into a buffer, from `at` on. By bytes in a loop: of a length that is known only as it runs `copy_from_slice` is a call,
+// and a run that stores and fetches made 0.85 of the hand-tuned engine's steps.
 pub fn lay(buffer: &mut [u8], at: usize, new: &[u8])
     requires { at + length new.now ≤ length buffer.old }
     ensures { buffer.new ≡ over buffer.old at new.now (length new.now) }
 {
-    let mut i = 0;
-    while i < new.len() {
+    for i in 0..new.len() {
         buffer[at + i] = new[i];
-        i += 1;
     }
 }
 
@@ -23,12 +22,7 @@ pub fn clear(buffer: &mut [u8], at: usize)
     requires { at ≤ length buffer.old }
     ensures { buffer.new ≡ take at buffer.old ++ replicate (length buffer.old - at) 0 }
 {
-    let count = buffer.len() - at;
-    let mut i = 0;
-    while i < count {
-        buffer[at + i] = 0;
-        i += 1;
-    }
+    buffer[at..].fill(0);
 }
 
 // ---- a number of eight bytes, the highest first
@@ -38,22 +32,7 @@ pub fn byte_in(n: u64, j: usize) -> u8
     requires { j < 8 }
     ensures { result ≡ byte_in j n }
 {
-    ((n >> (56 - 8 * j)) % 256) as u8
-}
-
-fn eight_of(n: u64) -> [u8; 8]
-    ensures { result ≡ eight_of n }
-{
-    [
-        byte_in(n, 0),
-        byte_in(n, 1),
-        byte_in(n, 2),
-        byte_in(n, 3),
-        byte_in(n, 4),
-        byte_in(n, 5),
-        byte_in(n, 6),
-        byte_in(n, 7),
-    ]
+    n.to_be_bytes()[j]
 }
 
 // Lays all eight into a buffer, from `at` on. They are laid from an array, which the compiler takes for one number: so they are one store.
@@ -61,42 +40,16 @@ pub fn lay_eight(buffer: &mut [u8], at: usize, n: u64)
     requires { at + 8 ≤ length buffer.old }
     ensures { buffer.new ≡ over buffer.old at (eight_of n) 8 }
 {
-    let bytes = eight_of(n);
+    let bytes = n.to_be_bytes();
     lay(buffer, at, &bytes);
 }
 
-// ---- a number of two bytes, the high one first
-
-pub fn high(n: u16) -> u8
-    ensures { result ≡ n / 256 % 256 }
-{
-    (n / 256) as u8
-}
-
-pub fn low(n: u16) -> u8
-    ensures { result ≡ n % 256 }
-{
-    (n % 256) as u8
-}
-
-// A byte, and such a number, are widened by a call, so that they need no proof that they fit.
-pub fn wide(x: u8) -> u16
-    ensures { (result ≡ x) × (result < 256) }
-{
-    x as u16
-}
-
-pub fn wide_word(x: u16) -> u64
-    ensures { (result ≡ x) × (result < 65536) }
-{
-    x as u64
-}
-
+// The number of two bytes, the high one first.
 pub fn word_at(buffer: &[u8], at: usize) -> u16
     requires { at + 1 < length buffer.now }
     ensures { result ≡ word_at buffer.now at }
 {
-    256 * wide(buffer[at]) + wide(buffer[at + 1])
+    u16::from_be_bytes([buffer[at], buffer[at + 1]])
 }
 
 // ---- the instructions

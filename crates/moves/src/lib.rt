@@ -5,11 +5,11 @@ ghost use Rattle.rules.specs.World.{world};
 ghost use Rattle.rules.specs.Rows.{bytes_of};
 ghost use Rattle.rules.proofs.Ready.{Ready};
 ghost use Rattle.parts.specs.Whole.{whole};
-ghost use Rattle.ways.specs.Steps.{Made};
+ghost use Rattle.ways.specs.Steps.{Steps};
 
 use decode::Way;
 use parts::Core;
-use rules::{Machine, Outcome, Refusal, Trail};
+use rules::{Machine, Refusal, Trail};
 use ways::Stepped;
 
 // A step, by its instruction. Whichever way it takes, it is judged before anything is written; then its record is kept, and it acts.
@@ -18,26 +18,24 @@ pub fn step(
     v: &mut [u8; 16],
     stack: &mut [u16; Machine::STACK],
     trail: Trail,
-    memory: &mut [u8],
-    rows: &mut [u64],
+    memory: &mut [u8; Machine::MEMORY],
+    rows: &mut [u64; Machine::ROWS],
     history: &mut [u8],
     keys: u16,
     random: u8,
-) -> Stepped
+) -> Result<Stepped, Refusal>
     requires { Ready (world (whole c v.old stack.old) trail memory.old (bytes_of rows.old) history.old) }
-    ensures { Made keys random
+    ensures { Steps keys random
         (world (whole c v.old stack.old) trail memory.old (bytes_of rows.old)
         history.old) result v.new stack.new memory.new (bytes_of rows.new) history.new }
 {
     let at = c.pc as usize;
     if c.end as usize - 2 < at {
-        return ways::refused(Outcome::Refused(Refusal::PcPastEnd), c, trail);
+        return Err(Refusal::PcPastEnd);
     }
-    let edition = c.edition;
     let hi = memory[at];
     let lo = memory[at + 1];
-    let way = decode::way_of(edition, hi, lo);
-    match way {
+    match decode::way_of(c.edition, hi, lo) {
         Way::Plain => ways::plain_step(
             hi, lo, c, v, stack, trail, memory, rows, history, keys, random,
         ),

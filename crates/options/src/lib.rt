@@ -7,15 +7,15 @@ use std::env::Env;
 // Whether argument k is that word.
 fn is_word(rt: &impl Env, k: usize, word: &[u8]) -> bool {
     let mut given = [0u8; 16];
-    match rt.arg(k, &mut given) {
-        Ok(size) => check::same(&given[..size], word),
-        Err(_) => false,
-    }
+    let Ok(size) = rt.arg(k, &mut given) else {
+        return false;
+    };
+    &given[..size] == word
 }
 
 // The same of one of the three arguments that there can be.
 pub fn has_option(rt: &impl Env, word: &[u8]) -> bool {
-    is_word(rt, 1, word) | is_word(rt, 2, word) | is_word(rt, 3, word)
+    (1..4).any(|k| is_word(rt, k, word))
 }
 
 // Where memory ends: at 1,696 where the 2K profile is asked for, and else at 4,096.

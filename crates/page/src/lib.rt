@@ -1,7 +1,7 @@
 // The page of variables as bytes: each is one line of one digit's pattern, or dark.
 #![tactic(auto)]
 
-ghost use Rattle.std.specs.Prelude.{◌≡◌, ◌<◌, length, set};
+ghost use Rattle.std.specs.Prelude.{◌≡◌, ◌<◌};
 ghost use Rattle.page.specs.Bytes as spec;
 
 use rules::Machine;
@@ -14,10 +14,7 @@ fn value(v: &[u8; 16], pc: u16, k: usize) -> u8
     if k < 16 {
         return v[k];
     }
-    if k == 16 {
-        return (pc / 256 % 256) as u8;
-    }
-    (pc % 256) as u8
+    pc.to_be_bytes()[k - 16]
 }
 
 // One of a byte's two digits, the high one first.
@@ -44,20 +41,11 @@ fn page_byte(v: &[u8; 16], pc: u16, at: usize) -> u8
     chip8::shape_line(digit(value(v, pc, place), at % 2), line)
 }
 
-// A byte of the page takes the place of what stood there: no old spot is left.
-fn put(page: &mut [u8], at: usize, b: u8)
-    requires { at < length page.old }
-    ensures { page.new ≡ set page.old at b }
-{
-    page[at] = b;
-}
-
-// Every byte of the page.
-pub fn fill(v: &[u8; 16], pc: u16, page: &mut [u8])
-    requires { length page.old ≡ 256 }
+// Every byte of the page takes the place of what stood there: no old spot is left.
+pub fn fill(v: &[u8; 16], pc: u16, page: &mut [u8; Machine::PICTURE])
     ensures { page.new ≡ spec.page_of v.now pc }
 {
     for at in 0..Machine::PICTURE {
-        put(page, at, page_byte(v, pc, at));
+        page[at] = page_byte(v, pc, at);
     }
 }

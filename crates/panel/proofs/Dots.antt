@@ -1,17 +1,20 @@
 -- A byte of the panel is half of a doubled byte of the picture: so the bytes laid one by one are the panel, and its dots are the spots.
 use mathlib.Core.Path.{◌≡◌, refl, sym, ap, ap₂, ◌∙◌}
 use mathlib.Core.Bool.{true, false, false≢true}
-use mathlib.Core.List.{List}
+use mathlib.Core.List.{List, ◌++◌}
 use Prim.Native.Nat.{ℕ, zero, suc, ◌+◌, ◌-◌, ◌*◌, ◌/◌, ◌%◌, ◌≤◌, ◌<◌}
 use native.Mathlib.Nat.{not-suc-le-zero, add-zero, zero-add}
 use native.Mathlib.Decide.{ℕ_discrete, dec_lt}
 use native.Mathlib.Omega.{arith}
-use lib.ListN.{get_or, set, length, length-set}
-use lib.Seq.{ext_get_or, get_or-set_same, get_or-set_other}
-use Rattle.rules.specs.declared.Outcome.{Outcome}
+use lib.ListN.{get_or, set, length, take, drop, length-set, length-take, length-drop, get_or-append}
+use lib.Seq.{ext_get_or, get_or-set_same, get_or-set_other, get_or-take, get_or-drop}
 use Rattle.rules.specs.Number.{bit}
-use Rattle.rules.specs.Refusal.{number as refusal}
+use Rattle.rules.specs.Refusal.{Outcome, number as refusal}
 use Rattle.rules.specs.Picture.{spot, byte_of}
+use Rattle.std.specs.Int.{w32, to_be_bytes}
+use Rattle.std.proofs.lemmas.List.{get_or-append_right}
+use Rattle.rules.specs.Memory.{over}
+use Rattle.rules.proofs.Laid.{none as none_laid, more as one_laid, laid}
 use Rattle.rules.proofs.OnlyOne.{one_outcome}
 use Rattle.rules.proofs.Drawn.{number, same, bit_lit, digit, byte_number, same_byte}
 use Rattle.panel.specs.Panel.{PanelOf, dot_bytes, panel_of, twice, fits, Shows}
@@ -151,6 +154,19 @@ module _ (l : List ℕ) (at n : ℕ) where
   pair_low : at + 1 < length l → get_or (pair l at n) (at + 1) 0 ≡ n % 256
   pair_low h = get_or-set_same first (at + 1) (n % 256) 0 (simp length-set h)
 
+-- ---- four bytes laid: two pairs
+
+pub four_laid : (l : List ℕ) (at n : ℕ) → at + 3 < length l
+    → over l at (to_be_bytes w32 n) 4 ≡ pair (pair l at (n / 65536)) (at + 2) (n % 65536)
+four_laid l at n h =
+    let s = to_be_bytes w32 n in
+    let one = one_laid l at s 4 l 0 (n / 65536 / 256 % 256) (none_laid l at s 4 refl (omega arith)) (omega arith) (omega arith) in
+    let two = one_laid l at s 4 _ 1 (n / 65536 % 256) one (omega arith) (omega arith) in
+    let three = one_laid l at s 4 _ 2 (n % 65536 / 256 % 256) two (omega arith) (omega arith) in
+    let four = one_laid l at s 4 _ 3 (n % 65536 % 256) three (omega arith) (omega arith) in
+    let last : at + 2 + 1 ≡ at + 3 = omega arith in
+    sym (rw last (rw add-zero at (laid l at s 4 _ 4 four (omega arith))))
+
 -- ---- the upper rows on the way
 
 module _ (picture l : List ℕ) where
@@ -183,65 +199,70 @@ module _ (picture l : List ℕ) where
       rw e at p
 
 -- two bytes of the picture at a time, in one number
-pub two_more : (picture l : List ℕ) (k n : ℕ) → Upper picture l k → k % 2 ≡ 0 → k < 256
-    → n ≡ 65536 * twice (get_or picture k 0) + twice (get_or picture (k + 1) 0)
-    → Upper picture (pair (pair l (upper k) (n / 65536)) (upper k + 2) (n % 65536)) (k + 2)
-two_more picture l k n p z h e =
+pub two_more : (picture l : List ℕ) (two n : ℕ) → Upper picture l (2 * two) → two < 128
+    → n ≡ 65536 * twice (get_or picture (2 * two) 0) + twice (get_or picture (2 * two + 1) 0)
+    → Upper picture (pair (pair l (upper (2 * two)) (n / 65536)) (upper (2 * two) + 2) (n % 65536)) (2 * (two + 1))
+two_more picture l two n p h e =
+    let k = 2 * two in
     let right : upper (k + 1) ≡ upper k + 2 = omega arith in
-    let next : k + 1 + 1 ≡ k + 2 = omega arith in
+    let next : k + 1 + 1 ≡ 2 * (two + 1) = omega arith in
     let high : n / 65536 ≡ twice (get_or picture k 0) = wide_high _ _ n (twice_word _) e in
     let low : n % 65536 ≡ twice (get_or picture (k + 1) 0) = wide_low _ _ n (twice_word _) e in
-    rw (right, next) at (more picture (pair l (upper k) (n / 65536)) (k + 1) (n % 65536) (more picture l k (n / 65536) p h high) (omega arith) low)
+    rw (right, next) at (more picture (pair l (upper k) (n / 65536)) (k + 1) (n % 65536) (more picture l k (n / 65536) p (omega arith) high) (omega arith) low)
 
--- ---- a row repeated, byte by byte
+-- ---- a row repeated: what stands up to its end, the row once more, and what stands behind that
 
-pub record Copied (l₀ : List ℕ) (at : ℕ) (l : List ℕ) (i : ℕ) : Type 0 where
-  pub size : length l ≡ 1024
-  pub some : i ≤ 16
-  pub ahead : (j : ℕ) → j < at + 16 → get_or l j 0 ≡ get_or l₀ j 0
-  pub copied : (j : ℕ) → at + 16 ≤ j → j < at + 16 + i → get_or l j 0 ≡ get_or l₀ (j - 16) 0
-  pub behind : (j : ℕ) → at + 16 + i ≤ j → get_or l j 0 ≡ get_or l₀ j 0
+module _ (l u v c : List ℕ) (y : ℕ) (size : length l ≡ 1024) (h : y < 32) (front : u ≡ take (32 * y + 16) l) (back : v ≡ drop (32 * y + 16) l)
+    (row_is : c ≡ drop (32 * y) u) where
+  abbrev end : ℕ
+  end = 32 * y + 16
 
-module _ (l₀ : List ℕ) (at : ℕ) where
-  pub copy_none : length l₀ ≡ 1024 → Copied l₀ at l₀ 0
-  copy_none e =
-      record { size = e; some = omega arith; ahead = λ j h. refl; copied = λ j h s. absurd (omega arith); behind = λ j h. refl }
+  abbrev twofold : List ℕ
+  twofold = u ++ (c ++ drop 16 v)
 
-  pub copy_more : (l : List ℕ) (i : ℕ) → Copied l₀ at l i → i < 16 → at + 32 ≤ 1024 → Copied l₀ at (set l (at + 16 + i) (get_or l (at + i) 0)) (i + 1)
-  copy_more l i p h room =
+  front_long : length u ≡ end
+  front_long = ap length front ∙ simp length-take (omega arith)
+
+  row_long : length c ≡ 16
+  row_long = ap length row_is ∙ simp length-drop (omega (arith, front_long))
+
+  in_front : (j : ℕ) → j < end → get_or u j 0 ≡ get_or l j 0
+  in_front j s = ap (λ (m : List ℕ). get_or m j 0) front ∙ get_or-take end l j 0 s
+
+  ahead : (j : ℕ) → j < end → get_or twofold j 0 ≡ get_or l j 0
+  ahead j s = get_or-append u (c ++ drop 16 v) 0 j (omega (arith, front_long)) ∙ in_front j s
+
+  copied : (j : ℕ) → end ≤ j → j < end + 16 → get_or twofold j 0 ≡ get_or l (j - 16) 0
+  copied j b s =
+      let there : 32 * y + (j - end) ≡ j - 16 = omega arith in
+      get_or-append_right u (c ++ drop 16 v) end j 0 front_long b ∙ get_or-append c (drop 16 v) 0 (j - end) (omega (arith, row_long))
+      ∙ ap (λ (m : List ℕ). get_or m (j - end) 0) row_is ∙ get_or-drop (32 * y) u (j - end) 0 ∙ rw there (in_front (j - 16) (omega arith))
+
+  behind : (j : ℕ) → end + 16 ≤ j → get_or twofold j 0 ≡ get_or l j 0
+  behind j b =
+      let there : end + (16 + (j - end - 16)) ≡ j = omega arith in
+      get_or-append_right u (c ++ drop 16 v) end j 0 front_long (omega arith) ∙ get_or-append_right c (drop 16 v) 16 (j - end) 0 row_long (omega arith)
+      ∙ get_or-drop 16 v (j - end - 16) 0 ∙ ap (λ (m : List ℕ). get_or m (16 + (j - end - 16)) 0) back
+      ∙ get_or-drop end l (16 + (j - end - 16)) 0 ∙ ap (λ (i : ℕ). get_or l i 0) there
+
+  pub row_repeated : Repeated l y twofold
+  row_repeated =
       record {
-        size = length-set l (at + 16 + i) _ ∙ p.size;
-        some = omega arith;
-        ahead = λ j s. get_or-set_other l (at + 16 + i) j _ 0 (omega arith) ∙ p.ahead j s;
-        copied = λ j a s. here j a s (ℕ_discrete j (at + 16 + i));
-        behind = λ j s. get_or-set_other l (at + 16 + i) j _ 0 (omega arith) ∙ p.behind j (omega arith);
+        row = λ j s. half j s (dec_lt j end);
+        rest = λ j ne. outside j ne (dec_lt j end);
       }
     where
-      here : (j : ℕ) → at + 16 ≤ j → j < at + 16 + (i + 1) → Dec (j ≡ at + 16 + i)
-          → get_or (set l (at + 16 + i) (get_or l (at + i) 0)) j 0 ≡ get_or l₀ (j - 16) 0
-      here j a s (yes e) =
-          let back : at + 16 + i - 16 ≡ at + i = omega arith in
-          rw (e, back) (get_or-set_same l (at + 16 + i) (get_or l (at + i) 0) 0 (omega (arith, p.size)) ∙ p.ahead (at + i) (omega arith))
-      here j a s (no ne) = get_or-set_other l (at + 16 + i) j (get_or l (at + i) 0) 0 ne ∙ p.copied j a (omega arith)
-
-  pub copy_all : (l : List ℕ) (i y : ℕ) → Copied l₀ at l i → 16 ≤ i → at ≡ 32 * y → Repeated l₀ y l
-  copy_all l i y p h e =
-      record {
-        row = λ j s. half j s (ℕ_discrete (j / 16 % 2) 0);
-        rest = λ j ne. outside j ne (dec_lt j (at + 16));
-      }
-    where
-      half : (j : ℕ) → j / 32 ≡ y → Dec (j / 16 % 2 ≡ 0) → get_or l j 0 ≡ get_or l₀ (above j) 0
-      half j s (yes z) =
+      half : (j : ℕ) → j / 32 ≡ y → Dec (j < end) → get_or twofold j 0 ≡ get_or l (above j) 0
+      half j s (yes b) =
           let same_place : above j ≡ j = omega arith in
-          rw same_place (p.ahead j (omega arith))
-      half j s (no z) =
+          rw same_place (ahead j b)
+      half j s (no b) =
           let up : above j ≡ j - 16 = omega arith in
-          rw up (p.copied j (omega arith) (omega arith))
+          rw up (copied j (omega arith) (omega arith))
 
-      outside : (j : ℕ) → (j / 32 ≡ y → ⊥) → Dec (j < at + 16) → get_or l j 0 ≡ get_or l₀ j 0
-      outside j ne (yes s) = p.ahead j s
-      outside j ne (no s) = p.behind j (omega arith)
+      outside : (j : ℕ) → (j / 32 ≡ y → ⊥) → Dec (j < end) → get_or twofold j 0 ≡ get_or l j 0
+      outside j ne (yes b) = ahead j b
+      outside j ne (no b) = behind j (omega arith)
 
 -- ---- all rows repeated
 

@@ -1,9 +1,8 @@
 -- The panel: 128 by 64 dots in 1,024 bytes, 16 bytes a row, the highest bit leftmost. Each spot of the picture fills two by two dots.
 use Rattle.std.specs.Prelude.{◌≡◌, Bool, true, ◌&&◌, List, [], ◌∷◌, ℕ, zero, suc, ◌+◌, ◌-◌, ◌*◌, ◌/◌, ◌%◌, ◌<◌, get_or, length, eqb}
-use Rattle.rules.specs.declared.Outcome.{Outcome}
 use Rattle.rules.specs.declared.Refusal.TheVariants.{BufferLength}
 use Rattle.rules.specs.Number.{pick, unless, bit}
-use Rattle.rules.specs.Refusal.{number_of, number}
+use Rattle.rules.specs.Refusal.{Outcome, number_of, number}
 use Rattle.rules.specs.State.{picture_size}
 use Rattle.rules.specs.Picture.{spot, byte_of}
 

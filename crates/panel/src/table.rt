@@ -32,5 +32,5 @@ pub fn doubled(table: &[u16; 256], b: u8) -> u16
     requires { Doubles table.now }
     ensures { result ≡ twice b }
 {
-    table[b as usize]
+    table[usize::from(b)]
 }

@@ -1,9 +1,9 @@
 -- Laws of bits: of a number moved up, of a byte, of what two numbers have in common, and of what they are together.
-use mathlib.Core.Path.{◌≡◌, sym, ap, ◌∙◌}
-use Prim.Native.Nat.{ℕ, zero, suc, ◌+◌, ◌*◌, ◌/◌, ◌%◌, ◌^◌, ◌<◌, min, max}
+use mathlib.Core.Path.{◌≡◌, refl, sym, ap, ◌∙◌}
+use Prim.Native.Nat.{ℕ, zero, suc, ◌+◌, ◌*◌, ◌/◌, ◌%◌, ◌^◌, ◌<◌, ◌≤◌, min, max}
 use native.Mathlib.Nat.{zero-div, zero-add, add_comm, mul_assoc, pow-suc}
 use native.Mathlib.Omega.{arith}
-use lib.Bits.{bit_and, bit_or, and_step, and_shr, or_step, or_shr, or_zero_l, shifted_even}
+use lib.Bits.{bit_and, bit_or, and_zero_r, and_step, and_shr, or_step, or_shr, or_zero_l, shifted_even}
 use lib.Count.{ones, ones_step}
 use lib.Pow.{shr-shr, shl-shr, pow-add}
 use Rattle.rules.specs.Number.{bit}
@@ -29,6 +29,16 @@ bit_and_law b m n = rw (and_shr m n b, and_step (m / 2 ^ b) (n / 2 ^ b)) (odd _ 
 
 pub bit_or_law : (b m n : ℕ) → bit b (bit_or m n) ≡ max (bit b m) (bit b n)
 bit_or_law b m n = rw (or_shr m n b, or_step (m / 2 ^ b) (n / 2 ^ b)) (odd _ _ (omega (arith, bit_lit b m, bit_lit b n)))
+
+-- what two numbers have in common has no more ones than one of them
+pub ones_and : (k m n : ℕ) → n < 2 ^ k → ones (bit_and m n) ≤ ones n
+ones_and zero m n h = let none : n ≡ 0 = omega arith in rw (none, and_zero_r) (omega arith)
+ones_and (suc k) m n h =
+    let r = bit_and (m / 2) (n / 2) in
+    let c = min (m % 2) (n % 2) in
+    let l : c < 2 = omega arith in
+    let is : ones (bit_and m n) ≡ c + ones r = ap ones (and_step m n) ∙ ones_step (r * 2 + c) ∙ rw (half r c l, odd r c l) refl in
+    omega (arith, is, ones_and k (m / 2) (n / 2) (omega (arith, pow-suc 2 k)), ones_step n)
 
 -- numbers that have no bit in common have together as many ones as both
 pub ones_apart : (k m n : ℕ) → m < 2 ^ k → ((b : ℕ) → b < k → min (bit b m) (bit b n) ≡ 0) → ones (bit_or m n) ≡ ones m + ones n

@@ -14,9 +14,9 @@ use Rattle.rules.specs.Rows.{bytes_of}
 use Rattle.rules.proofs.Choices.{choice}
 use Rattle.picture.specs.Sums.{summed, between}
 use Rattle.picture.proofs.RowSpots.{spot_is}
-use Rattle.picture.proofs.Sums.{summed_on, summed_skip, sum_plus, sum_rows, ones_zero}
+use Rattle.picture.proofs.Sums.{summed_le, summed_on, summed_skip, sum_plus, sum_rows, ones_zero}
 use Rattle.pattern.specs.Masks.{mask_of, mask_at, met_at, shows_at}
-use Rattle.pattern.proofs.Bits.{bit_and_law}
+use Rattle.pattern.proofs.Bits.{bit_and_law, ones_and}
 use Rattle.pattern.proofs.Shown.{mask_above, mask_beneath, shown_is}
 
 mask_below : (p column : ℕ) → p < 256 → mask_of p column < 2 ^ 64
@@ -41,6 +41,10 @@ module _ (pattern : List ℕ) (column row : ℕ) where
         let s = shown pattern column row in
         sum_plus (λ x y. s x y - spot P x y) (λ x y. min (spot P x y) (s x y)) s (λ x y. omega arith) 2048 0
         ∙ sum_rows s (mask_at pattern column row) mask_fits (λ x y h l. shown_is pattern column row small x y h)
+
+    -- what the pattern meets is among what it shows
+    pub met_shown : (rows : List ℕ) (from to : ℕ) → between (met_at pattern column row rows) from to ≤ between (shows_at pattern column row) from to
+    met_shown rows from to = summed_le _ _ (λ k. ones_and 64 (get_or rows (from + k) 0) _ (mask_fits (from + k))) (to - from)
 
   -- a sum over rows to which one adds nothing where the pattern shows nothing
   module _ (f : ℕ → ℕ) (none : (y : ℕ) → mask_at pattern column row y ≡ 0 → f y ≡ 0) where

@@ -2,7 +2,7 @@
 -- moved on by eight before each, so that no two rows meet.
 use mathlib.Core.Path.{◌≡◌, sym, ap, ap₂, ◌∙◌}
 use mathlib.Core.List.{List}
-use Prim.Native.Nat.{ℕ, zero, suc, ◌+◌, ◌-◌, ◌*◌, ◌/◌, ◌%◌, ◌^◌, ◌≤◌, ◌<◌, min}
+use Prim.Native.Nat.{ℕ, suc, ◌+◌, ◌-◌, ◌*◌, ◌/◌, ◌%◌, ◌^◌, ◌≤◌, ◌<◌, min}
 use native.Mathlib.Nat.{add-zero, mod-lt}
 use native.Mathlib.Decide.{dec_lt}
 use native.Mathlib.Omega.{arith}
@@ -15,7 +15,7 @@ use Rattle.rules.specs.Number.{bit}
 use Rattle.rules.proofs.Choices.{choice}
 use Rattle.picture.specs.Sums.{summed, between}
 use Rattle.picture.proofs.Bits.{bit_down, bit_cut}
-use Rattle.picture.proofs.Sums.{ones_zero}
+use Rattle.picture.proofs.Sums.{ones_zero, summed_few}
 use Rattle.pattern.specs.Masks.{mask_of, mask_at, shows_at, rolled}
 use Rattle.pattern.proofs.Bits.{bit_zero, bit_up, bit_under, bit_over, bit_and_law, bit_or_law, ones_apart}
 
@@ -133,15 +133,10 @@ few p column small =
     let byte = rw add-zero at (ones_cat 56 p 0 (pow_pos 56)) in
     omega (arith, parts, whole, byte, ones_zero, ones-le 8 p small)
 
-summed_few : (f : ℕ → ℕ) → ((k : ℕ) → f k ≤ 8) → (n : ℕ) → summed f n ≤ 8 * n
-unfolding summed
-summed_few f h zero = omega arith
-summed_few f h (suc n) = omega (arith, summed_few f h n, h n)
-
 pub shown_few : (pattern : List ℕ) (column row : ℕ) → ((k : ℕ) → get_or pattern k 0 < 256) → (from to : ℕ)
     → between (shows_at pattern column row) from to ≤ 8 * (to - from)
 unfolding mask_at
-shown_few pattern column row small from to = summed_few _ (λ k. each (from + k)) (to - from)
+shown_few pattern column row small from to = omega (arith, summed_few (λ k. shows_at pattern column row (from + k)) 8 (λ k. each (from + k)) (to - from))
   where
     each : (y : ℕ) → shows_at pattern column row y ≤ 8
     each y = choice (λ (m : ℕ). ones m ≤ 8) (leb row y) (few (get_or pattern (y - row) 0) column (small (y - row))) (omega (arith, ones_zero))

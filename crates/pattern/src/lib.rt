@@ -18,5 +18,5 @@ pub fn mask_of(p: u64, column: usize) -> u64
 pub fn gather(d: u64, spots: u64) -> u64
     ensures { result ≡ bit_or (rolled d) spots }
 {
-    ((d << 8) | (d >> 56)) | spots
+    d.rotate_left(8) | spots
 }

@@ -1,17 +1,19 @@
 -- The lit spots of a picture counted row by row, from the first on.
-use mathlib.Core.Path.{◌≡◌, refl, sym, ap₂, ◌∙◌}
+use mathlib.Core.Path.{◌≡◌, refl, sym, ap, ap₂, ◌∙◌}
 use mathlib.Core.List.{List}
 use Prim.Native.Nat.{ℕ, ◌+◌, ◌*◌, ◌^◌, ◌≤◌, ◌<◌}
 use native.Mathlib.Omega.{arith}
 use native.Mathlib.Numerals.{add-one}
-use lib.ListN.{get_or}
-use lib.Count.{ones}
+use lib.ListN.{length, get_or}
+use lib.Seq.{take-length}
+use lib.Count.{ones, ones-le}
+use Rattle.std.specs.List.{sum_by}
 use Rattle.rules.specs.Picture.{spot, lit_spots}
 use Rattle.rules.specs.Rows.{bytes_of}
 use Rattle.rules.proofs.Counted.{lit_sum}
 use Rattle.picture.specs.Sums.{summed}
 use Rattle.picture.proofs.RowSpots.{spot_is}
-use Rattle.picture.proofs.Sums.{sum_rows}
+use Rattle.picture.proofs.Sums.{sum_rows, summed_list, summed_few}
 
 lit_rows : (rows : List ℕ) → ((y : ℕ) → get_or rows y 0 < 2 ^ 64) → lit_spots (bytes_of rows) ≡ summed (λ k. ones (get_or rows k 0)) 32
 lit_rows rows small = lit_sum (bytes_of rows) ∙ sum_rows (spot (bytes_of rows)) (λ k. get_or rows k 0) small (λ x y h l. spot_is rows x y h)
@@ -30,10 +32,9 @@ module _ (f : ℕ → ℕ) where
   unfolding summed
   row_more y n m l e h = record { is = rw add-one (ap₂ ◌+◌ l.is e); few = omega (arith, l.few) }
 
--- the lit spots of each row
-abbrev pub lit_row : List ℕ → ℕ → ℕ
-lit_row rows k = ones (get_or rows k 0)
-
-pub all_rows : (rows : List ℕ) → ((y : ℕ) → get_or rows y 0 < 2 ^ 64) → (y lit : ℕ) → CountedAbove (lit_row rows) y lit → y ≡ 32
-    → (lit ≡ lit_spots (bytes_of rows)) × (lit ≤ 2048)
-all_rows rows small y lit l e = (rw e at l.is ∙ sym (lit_rows rows small), omega (arith, l.few))
+pub rows_counted : (rows : List ℕ) → ((y : ℕ) → get_or rows y 0 < 2 ^ 64) → length rows ≡ 32
+    → (sum_by ones rows ≡ lit_spots (bytes_of rows)) × (sum_by ones rows ≤ 2048)
+rows_counted rows small size =
+    let is : sum_by ones rows ≡ summed (λ k. ones (get_or rows k 0)) 32 =
+    ap (sum_by ones) (sym (rw size at (take-length rows))) ∙ summed_list ones rows 32 (omega arith) in
+    (is ∙ sym (lit_rows rows small), rw is (summed_few _ 64 (λ k. ones-le 64 (get_or rows k 0) (small k)) 32))

@@ -17,7 +17,7 @@ use Rattle.rules.proofs.Undo.{Outside}
 use Rattle.rules.specs.Lit.{lit_in}
 use Rattle.rules.proofs.ByChange.{lit_append, lit_outside}
 use Rattle.picture.proofs.Sums.{ones_zero}
-use Rattle.picture.proofs.PutSome.{part_one}
+use Rattle.picture.proofs.PutRow.{part_one}
 
 -- ---- some bytes after the other
 

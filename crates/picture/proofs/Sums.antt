@@ -1,10 +1,15 @@
 -- Sums over spots, over rows and over bytes: the spots that are bits of numbers are as many as those numbers have ones.
 use mathlib.Core.Path.{◌≡◌, refl, sym, ap, ap₂, ◌∙◌}
+use mathlib.Core.List.{List}
 use Prim.Native.Nat.{ℕ, zero, suc, ◌+◌, ◌-◌, ◌*◌, ◌/◌, ◌%◌, ◌^◌, ◌≤◌, ◌<◌}
 use native.Mathlib.Nat.{add-zero, add-suc, zero-add, zero-mul, suc-mul, pow-suc}
 use native.Mathlib.Decide.{le_ind}
 use native.Mathlib.Omega.{arith}
+use native.Mathlib.Numerals.{add-one}
+use lib.ListN.{length, get_or, take}
 use lib.Count.{ones, ones_step}
+use Rattle.std.specs.List.{sum_by}
+use Rattle.std.proofs.lemmas.List.Sums.{sum_by_more}
 use Rattle.rules.specs.Number.{bit}
 use Rattle.rules.specs.Picture.{sum_from}
 use Rattle.picture.specs.Sums.{summed, between}
@@ -29,6 +34,22 @@ summed_on f g from to s d h same is more =
     let all : from + (to - from) ≡ to = omega arith in
     let terms : between g from to ≡ between f from to = summed_same (λ k. g (from + k)) (λ k. f (from + k)) (to - from) (λ k l. same (from + k) (omega arith)) in
     ap₂ ◌+◌ is (more ∙ terms) ∙ sym (summed_add f from (to - from)) ∙ ap (summed f) all
+
+-- a sum over a list, element by element
+pub summed_list : (f : ℕ → ℕ) (l : List ℕ) (n : ℕ) → n ≤ length l → sum_by f (take n l) ≡ summed (λ k. f (get_or l k 0)) n
+unfolding summed
+summed_list f l zero h = refl
+summed_list f l (suc n) h = rw (← add-one n, sum_by_more f l n 0 (omega arith), summed_list f l n (omega arith))
+
+pub summed_le : (f g : ℕ → ℕ) → ((k : ℕ) → f k ≤ g k) → (n : ℕ) → summed f n ≤ summed g n
+unfolding summed
+summed_le f g h zero = omega arith
+summed_le f g h (suc n) = omega (arith, summed_le f g h n, h n)
+
+pub summed_few : (f : ℕ → ℕ) (m : ℕ) → ((k : ℕ) → f k ≤ m) → (n : ℕ) → summed f n ≤ n * m
+unfolding summed
+summed_few f m h zero = omega arith
+summed_few f m h (suc n) = rw suc-mul (omega (arith, summed_few f m h n, h n))
 
 -- where nothing is added, the sum stays
 pub summed_skip : (f : ℕ → ℕ) (c e : ℕ) → c ≤ e → ((k : ℕ) → c ≤ k → k < e → f k ≡ 0) → summed f e ≡ summed f c

@@ -5,17 +5,16 @@ use mathlib.Core.List.{List, [], ◌∷◌}
 use Prim.Native.Nat.{ℕ, zero, suc, ◌+◌, ◌-◌, ◌≤◌, ◌<◌}
 use native.Mathlib.Numerals.{add-one}
 use native.Mathlib.Omega.{arith}
+use Rattle.std.specs.Prelude.{⊤, Result, Ok, Err, OnOk}
 use lib.ListN.{length, drop, get_or, drop_of_length-le}
 use lib.Seq.{drop-cons}
 use lib.Dec.{eqb, leb}
 use borrow.Author.Tests.{leb-true, eqb-true, eq-eqb, ne_eqb}
 use Rattle.rules.specs.declared.Action.TheVariants.{Step, Tick}
 use Rattle.rules.specs.declared.Machine.{Machine}
-use Rattle.rules.specs.declared.Outcome.{Outcome}
-use Rattle.rules.specs.declared.Outcome.TheVariants.{Done, Refused}
 use Rattle.rules.specs.declared.Refusal.{Refusal}
 use Rattle.rules.specs.Number.{pick, unless}
-use Rattle.rules.specs.Refusal.{number}
+use Rattle.rules.specs.Refusal.{done, number, number_of}
 use Rattle.rules.specs.State.{Chosen, chosen, end_sound, sound}
 use Rattle.rules.specs.Step.{Board}
 use Rattle.rules.specs.Call.{step_own, step_board, tick_board}
@@ -24,7 +23,7 @@ use Rattle.rules.specs.Typed.{Below, TypedMachine}
 use Rattle.rules.proofs.Good.{GoodMachine, GoodBoard}
 use Rattle.rules.proofs.Choices.{by_test, passed}
 use Rattle.rules.proofs.Follow.{action_follows}
-use Rattle.rules.proofs.Given.{refused_some, both_passed}
+use Rattle.rules.proofs.Given.{some_number, done_number}
 use Rattle.rules.proofs.Sound.{sound_good, sound_parts}
 use Rattle.rules.proofs.Still.{action_chosen}
 use Rattle.spots.specs.Spots.{spots_of, all_spots, AreSpots}
@@ -36,11 +35,12 @@ use Rattle.plain.specs.Plain.{in_spots, plain_refusal, plain_run, GivesPlain}
 
 -- ---- what passes the tests 9 and 10
 
-pub playable : (m : Machine) (mem spots : List ℕ) (lists : Bool) (o : Outcome) → TypedMachine m → Below 256 mem
-    → number o ≡ unless (eqb (length mem) 4096 && eqb (length spots) 2048 && lists) 9 (unless (sound m && all_spots spots) 10 0) → o ≡ Done
+pub playable : (m : Machine) (mem spots : List ℕ) (lists : Bool) → TypedMachine m → Below 256 mem
+    → unless (eqb (length mem) 4096 && eqb (length spots) 2048 && lists) 9 (unless (sound m && all_spots spots) 10 0) ≡ 0
     → Playable m mem spots
-playable m mem spots lists o typed bytes e d =
-    let (fits, healthy) = both_passed (eqb (length mem) 4096 && eqb (length spots) 2048 && lists) (sound m && all_spots spots) o e d in
+playable m mem spots lists typed bytes e =
+    let (fits, later) = passed (eqb (length mem) 4096 && eqb (length spots) 2048 && lists) 8 _ e in
+    let healthy = (passed (sound m && all_spots spots) 9 0 later).0 in
     let sizes = (and-eq-true_iff (eqb (length mem) 4096) (eqb (length spots) 2048)).0
     ((and-eq-true_iff (eqb (length mem) 4096 && eqb (length spots) 2048) lists).0 fits).0 in
     let both = (and-eq-true_iff (sound m) (all_spots spots)).0 healthy in
@@ -54,6 +54,12 @@ playable m mem spots lists o typed bytes e d =
       are = are;
     }
 
+pub passed_playable : {A : Type 0} (m : Machine) (mem spots : List ℕ) (lists : Bool) (o : Result A Refusal) → TypedMachine m → Below 256 mem
+    → number o ≡ unless (eqb (length mem) 4096 && eqb (length spots) 2048 && lists) 9 (unless (sound m && all_spots spots) 10 0)
+    → OnOk o (Playable m mem spots)
+passed_playable m mem spots lists (Ok x) typed bytes e = playable m mem spots lists typed bytes (sym e)
+passed_playable m mem spots lists (Err r) typed bytes e = _
+
 -- ---- ticks and a step keep it
 
 ticked_good : (n : ℕ) (b : Board) → GoodBoard b → GoodBoard (ticked_on n b)
@@ -65,9 +71,14 @@ unfolding stepped_to
 stepped_good keys random b g = by_test GoodBoard (step_own b) 0 (λ e. (action_follows b g (Step keys random) e).good) (λ ne. g)
 
 -- the board that is handed back
-handed : {n : ℕ} {b : Board} {o : Outcome} {m : Machine} {mem spots : List ℕ} → Leaves n b o m mem spots → board_on m mem spots ≡ b
+handed : {A : Type 0} {n : ℕ} {b : Board} {o : Result A Refusal} {m : Machine} {mem spots : List ℕ} → Leaves n b o m mem spots → board_on m mem spots ≡ b
 handed l = let machine = l.machine in let memory = l.memory in let picture = l.picture in
     λ i. record { machine = machine i; memory = memory i; picture = picture i }
+
+-- what is left with one answer is left with each of the same number
+pub leaves_as : {A B : Type 0} {n : ℕ} {b : Board} {o : Result A Refusal} (q : Result B Refusal) {m : Machine} {mem spots : List ℕ} → number q ≡ number o
+    → Leaves n b o m mem spots → Leaves n b q m mem spots
+leaves_as q e l = record { says = e ∙ l.says; machine = l.machine; memory = l.memory; picture = l.picture; are = l.are }
 
 pub one_less : (n : ℕ) (b : Board) → 0 < n → ticked_on n b ≡ ticked_on (n - 1) (tick_board b)
 one_less zero b h = absurd (omega arith)
@@ -110,7 +121,7 @@ pub started : (ticks keys randoms : List ℕ) (m : Machine) (mem spots : List �
 started ticks keys randoms m mem spots s p = record { lists = s; inside = omega arith; play = p; same = refl }
 
 module _ (ticks keys randoms : List ℕ) (b₀ : Board) (m : Machine) (mem spots : List ℕ) (i : ℕ) (h : Running ticks keys randoms b₀ m mem spots i) where
-  pub ended : length ticks ≤ i → GivesPlain (in_spots (gone_from 0 ticks keys randoms b₀)) i Done m mem spots
+  pub ended : length ticks ≤ i → GivesPlain (in_spots (gone_from 0 ticks keys randoms b₀)) i done m mem spots
   unfolding gone_from
   ended past =
       rw (← h.same, drop_of_length-le ticks {i = i} past)
@@ -132,7 +143,7 @@ module _ (ticks keys randoms : List ℕ) (b₀ : Board) (m : Machine) (mem spots
     opened =
         rw (drop_next ticks i more, drop_next keys i (omega (arith, h.lists.keys)), drop_next randoms i (omega (arith, h.lists.randoms))) at h.same
 
-    module _ {o : Outcome} {m' : Machine} {mem' spots' : List ℕ} (l : Leaves (step_own c) (stepped_to k r c) o m' mem' spots') where
+    module _ {A : Type 0} {o : Result A Refusal} {m' : Machine} {mem' spots' : List ℕ} (l : Leaves (step_own c) (stepped_to k r c) o m' mem' spots') where
       accepted_board : step_own c ≡ 0 → board_on m' mem' spots' ≡ step_board k r c
       unfolding stepped_to
       accepted_board z = handed l ∙ rw (eq-eqb (step_own c) 0 z)
@@ -141,10 +152,10 @@ module _ (ticks keys randoms : List ℕ) (b₀ : Board) (m : Machine) (mem spots
       unfolding stepped_to
       refused_board ne = handed l ∙ rw (ne_eqb (step_own c) 0 ne)
 
-    pub went_on : (o : Outcome) (m' : Machine) (mem' spots' : List ℕ) → Leaves (step_own c) (stepped_to k r c) o m' mem' spots' → o ≡ Done
+    pub went_on : {A : Type 0} (o : Result A Refusal) (x : A) (m' : Machine) (mem' spots' : List ℕ) → Leaves (step_own c) (stepped_to k r c) o m' mem' spots' → o ≡ Ok x
         → Running ticks keys randoms b₀ m' mem' spots' (i + 1)
-    went_on o m' mem' spots' l done =
-        let z = sym l.says ∙ ap number done in
+    went_on o x m' mem' spots' l accepted =
+        let z = sym l.says ∙ done_number accepted in
         record {
           lists = h.lists;
           inside = omega arith;
@@ -155,10 +166,10 @@ module _ (ticks keys randoms : List ℕ) (b₀ : Board) (m : Machine) (mem spots
           same = rw (accepted_board l z) (rw (eq-eqb (step_own c) 0 z) at opened);
         }
 
-    pub stopped : (o : Outcome) (refusal : Refusal) (m' : Machine) (mem' spots' : List ℕ) → Leaves (step_own c) (stepped_to k r c) o m' mem' spots'
-        → o ≡ Refused refusal → GivesPlain (in_spots (gone_from 0 ticks keys randoms b₀)) i o m' mem' spots'
-    stopped o refusal m' mem' spots' l refused =
-        let some : step_own c ≡ 0 → ⊥ = λ z. refused_some refusal (sym (ap number refused) ∙ l.says ∙ z) in
+    pub stopped : (refusal : Refusal) (m' : Machine) (mem' spots' : List ℕ) → Leaves {A = ⊤} (step_own c) (stepped_to k r c) (Err refusal) m' mem' spots'
+        → GivesPlain (in_spots (gone_from 0 ticks keys randoms b₀)) i (Err refusal) m' mem' spots'
+    stopped refusal m' mem' spots' l =
+        let some : step_own c ≡ 0 → ⊥ = λ z. some_number refusal (l.says ∙ z) in
         let last = rw (ne_eqb (step_own c) 0 some) at opened in
         let b = refused_board l some in
         rw (← last)
@@ -179,10 +190,10 @@ module _ (ticks keys randoms : List ℕ) (m : Machine) (mem spots : List ℕ) wh
       (unless (sound m && all_spots spots) 10
       0)
 
-  pub run_refused : (r : Refusal) → number (Refused r) ≡ tests → GivesPlain (plain_run ticks keys randoms m mem spots) 0 (Refused r) m mem spots
+  pub run_refused : (r : Refusal) → number_of r ≡ tests → GivesPlain (plain_run ticks keys randoms m mem spots) 0 (Err r) m mem spots
   unfolding plain_run plain_refusal
   run_refused r e =
-      rw (ne_eqb tests 0 (λ z. refused_some r (e ∙ z))) (record { accepted = refl; says = e; machine = refl; memory = refl; picture = refl })
+      rw (ne_eqb tests 0 (λ z. some_number r (e ∙ z))) (record { accepted = refl; says = e; machine = refl; memory = refl; picture = refl })
 
   pub run_admitted : tests ≡ 0 → plain_run ticks keys randoms m mem spots ≡ in_spots (gone_from 0 ticks keys randoms (board_on m mem spots))
   unfolding plain_run plain_refusal
@@ -210,7 +221,7 @@ pub run_good : (ticks keys randoms : List ℕ) (m : Machine) (mem spots : List �
     → plain_refusal ticks keys randoms m mem spots ≡ 0 → GoodMachine (plain_run ticks keys randoms m mem spots).machine
 unfolding plain_refusal
 run_good ticks keys randoms m mem spots typed bytes e =
-    let p = playable m mem spots (lists_fit ticks keys randoms) Done typed bytes (sym e) refl in
+    let p = playable m mem spots (lists_fit ticks keys randoms) typed bytes e in
     rw (run_admitted ticks keys randoms m mem spots e) (gone_good 0 ticks keys randoms (board_on m mem spots) p.good).machine
 
 -- ---- with the edition and the end that it was handed

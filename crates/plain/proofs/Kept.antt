@@ -10,7 +10,6 @@ use lib.ListN.{drop, length}
 use lib.Dec.{eqb}
 use borrow.Author.Tests.{eq-eqb, ne_eqb}
 use Rattle.rules.specs.declared.Machine.{Machine}
-use Rattle.rules.specs.declared.Outcome.TheVariants.{Done}
 use Rattle.rules.specs.State.{chosen, sound}
 use Rattle.rules.specs.Picture.{lit_spots}
 use Rattle.rules.specs.World.{World, world}
@@ -59,7 +58,7 @@ module _ (ticks keys randoms : List ℕ) (m : Machine) (spots : List ℕ) (typed
   unfolding plain_refusal
   equal memory bytes e =
       let lists = lists_fit ticks keys randoms in
-      let p = playable m memory spots lists Done typed bytes (sym e) refl in
+      let p = playable m memory spots lists typed bytes e in
       let rest = (passed (eqb (length memory) 4096 && eqb (length spots) 2048 && lists) 8 _ e).1 in
       let healthy = ((and-eq-true_iff (sound m) (all_spots spots)).0 (passed (sound m && all_spots spots) 9 0 rest).0).0 in
       let given : Given (beside memory) =

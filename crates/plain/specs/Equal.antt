@@ -3,7 +3,7 @@
 use Rattle.std.specs.Prelude.{◌≡◌, true, List, ℕ}
 use Rattle.rules.specs.declared.Machine.{Machine}
 use Rattle.rules.specs.declared.Trail.{Trail}
-use Rattle.rules.specs.declared.Outcome.{Outcome}
+use Rattle.rules.specs.Refusal.{Outcome}
 use Rattle.rules.specs.World.{World, world, board_of, buffers_fit, soundly}
 use Rattle.rules.specs.Run.{Ran, run, run_refusal}
 use Rattle.rules.specs.Rows.{bytes_of}

@@ -2,10 +2,9 @@
 -- of the picture that the rules lead to.
 use Rattle.std.specs.Prelude.{◌≡◌, ◌&&◌, List, ℕ, length, eqb}
 use Rattle.rules.specs.declared.Machine.{Machine}
-use Rattle.rules.specs.declared.Outcome.{Outcome}
 use Rattle.rules.specs.declared.Refusal.TheVariants.{BufferLength, Unsound}
 use Rattle.rules.specs.Number.{pick, unless}
-use Rattle.rules.specs.Refusal.{number, number_of}
+use Rattle.rules.specs.Refusal.{Outcome, number, number_of}
 use Rattle.rules.specs.State.{memory_size, spot_count, sound}
 use Rattle.rules.specs.Run.{lists_fit}
 use Rattle.spots.specs.Spots.{spots_of, all_spots}

@@ -6,7 +6,11 @@
 // is carried out, so a function says where PC goes as well. VF is written by some lines for themselves, as the flag that tells what happened.
 //
 // A function takes the machine and gives it back as the instruction leaves it. What it `requires` was tested before: an instruction is judged
-// first, and only one that can be done is done.
+// first, and only one that can be done is done. That PC is at most 4,094 is asked line by line and is no type's: a machine may have any PC, and
+// what is handed back may have another.
+//
+// The words that the lines are made of stand in this crate alone, also where the first engine has one like it (`down`, `lowest`, `lay`): the two
+// engines share the types and the tests 9 and 10, and no instruction, decoder or drawing, so that each can be held against the other.
 #![tactic(auto)]
 
 ghost use Rattle.std.specs.Prelude.{◌≡◌, ℕ, ◌+◌, ◌<◌, ◌≤◌, List, ◌++◌, length, take, drop, replicate, nat_lt};
@@ -23,7 +27,7 @@ ghost use Rattle.rules.specs.declared.Wait.TheVariants.{Idle};
 ghost use Rattle.spots.specs.Spots.{picture_of, AreSpots};
 ghost use Rattle.plain_lines.specs.Lines.{Within, drawn_by, darkened_by};
 
-use rules::{Machine, Timers, Wait};
+use rules::{Machine, Wait};
 
 // ---- the words that the lines are made of
 
@@ -31,72 +35,54 @@ use rules::{Machine, Timers, Wait};
 pub fn v(m: Machine, x: u8) -> u8
     ensures { result ≡ reg m x }
 {
-    let at = (x % 16) as usize;
-    m.v[at]
+    m.v[usize::from(x % 16)]
 }
 
 // How many variables V0 to VX are.
 pub fn up_to(x: u8) -> usize
     ensures { result ≡ up_to x }
 {
-    (x % 16) as usize + 1
+    usize::from(x % 16) + 1
 }
 
 // "Let VX = b", and on to the next instruction, two bytes further.
-fn let_v(m: Machine, x: u8, b: u8) -> Machine
+fn let_v(mut m: Machine, x: u8, b: u8) -> Machine
     requires { m.pc ≤ 4094 }
     ensures { result ≡ rule.onward (with_reg x b m) }
 {
-    let at = (x % 16) as usize;
-    let mut after = m;
-    after.v[at] = b;
-    after.pc += 2;
-    after
+    m.v[usize::from(x % 16)] = b;
+    m.pc += 2;
+    m
 }
 
-// A flag: 1 where the test holds, and else 0.
-fn flag(test: bool) -> u8
-    ensures { result ≡ pick test 1 0 }
-{
-    if test { 1 } else { 0 }
-}
-
-// "Let VX = b", with a flag in VF. The flag is written last, so that it wins where X is F.
-fn let_v_and_flag(m: Machine, x: u8, b: u8, test: bool) -> Machine
+// "Let VX = b", with a flag in VF: 1 where the test holds, and else 0. It is written last, so that it wins where X is F.
+fn let_v_and_flag(mut m: Machine, x: u8, b: u8, test: bool) -> Machine
     requires { m.pc ≤ 4094 }
     ensures { result ≡ rule.onward (rule.flagged x b test m) }
 {
-    let at = (x % 16) as usize;
-    let mut after = m;
-    after.v[at] = b;
-    after.v[0xF] = flag(test);
-    after.pc += 2;
-    after
+    m.v[usize::from(x % 16)] = b;
+    m.v[0xF] = u8::from(test);
+    m.pc += 2;
+    m
 }
 
 // "Let I = i", and on to the next instruction.
-fn let_pointer(m: Machine, i: u16) -> Machine
+fn let_pointer(mut m: Machine, i: u16) -> Machine
     requires { m.pc ≤ 4094 }
     ensures { result ≡ rule.onward (with_i i m) }
 {
-    let mut after = m;
-    after.i = i;
-    after.pc += 2;
-    after
+    m.i = i;
+    m.pc += 2;
+    m
 }
 
 // "Skip next instruction if ..": past this one, and where the test holds past the next one too.
-fn skip_if(m: Machine, test: bool) -> Machine
+fn skip_if(mut m: Machine, test: bool) -> Machine
     requires { m.pc ≤ 4094 }
     ensures { result ≡ rule.skip_if test m }
 {
-    let mut after = m;
-    if test {
-        after.pc += 4;
-        return after;
-    }
-    after.pc += 2;
-    after
+    m.pc += if test { 4 } else { 2 };
+    m
 }
 
 // The same where the test does not hold.
@@ -104,53 +90,24 @@ fn skip_unless(m: Machine, test: bool) -> Machine
     requires { m.pc ≤ 4094 }
     ensures { result ≡ rule.skip_unless test m }
 {
-    let mut after = m;
-    if test {
-        after.pc += 2;
-        return after;
-    }
-    after.pc += 4;
-    after
+    skip_if(m, !test)
 }
 
 // Whether a key is down: bit k of the key bits is key k, and there is none above F.
 fn is_down(keys: u16, key: u8) -> bool
     ensures { result ≡ rule.down keys key }
 {
-    if key < 16 {
-        (keys >> key) % 2 == 1
-    } else {
-        false
-    }
+    key < 16 && (keys >> key) % 2 == 1
 }
 
-// The machine with another wait, which is what FX0A remembers from one step to the next.
-fn with_wait(m: Machine, wait: Wait) -> Machine
-    ensures { result ≡ with_wait wait m }
-{
-    let variables = m.v;
-    let stack = m.stack;
-    let timers = m.timers;
-    let edition = m.edition;
-    Machine {
-        v: variables,
-        i: m.i,
-        pc: m.pc,
-        stack,
-        depth: m.depth,
-        timers,
-        wait,
-        edition,
-        lit: m.lit,
-        end: m.end,
-    }
-}
-
-// Every instruction but FX0A ends a wait.
+// Every instruction but FX0A ends a wait, which is what FX0A remembers from one step to the next.
 pub fn no_wait(m: Machine) -> Machine
     ensures { result ≡ with_wait Idle m }
 {
-    with_wait(m, Wait::Idle)
+    Machine {
+        wait: Wait::Idle,
+        ..m
+    }
 }
 
 // Puts bytes into a buffer one after the other, from `at` on.
@@ -158,19 +115,7 @@ fn put(buffer: &mut [u8], at: usize, bytes: &[u8])
     requires { at + length bytes.now ≤ length buffer.old }
     ensures { buffer.new ≡ over buffer.old at bytes.now (length bytes.now) }
 {
-    let mut k = 0;
-    while k < bytes.len() {
-        buffer[at + k] = bytes[k];
-        k += 1;
-    }
-}
-
-// The first variables become those bytes, and the others stay.
-fn put_first(variables: &mut [u8; 16], bytes: &[u8])
-    requires { length bytes.now ≤ 16 }
-    ensures { variables.new ≡ bytes.now ++ drop (length bytes.now) variables.old }
-{
-    put(variables, 0, bytes);
+    buffer[at..at + bytes.len()].copy_from_slice(bytes);
 }
 
 // The number of lit spots that the machine has with it, brought from the count before a change of the picture to the count after it.
@@ -178,7 +123,7 @@ fn counted(lit: u16, before: usize, after: usize) -> u16
     requires { (before ≤ 2048) × (after ≤ 2048) × (before ≤ lit + after) × (lit + after ≤ before + 2048) }
     ensures { (p q : List ℕ) → before ≡ lit_spots p → after ≡ lit_spots q → result ≡ lit_after lit p q }
 {
-    (lit as usize + after - before) as u16
+    (usize::from(lit) + after - before) as u16
 }
 
 // ---- the table
@@ -187,44 +132,37 @@ fn counted(lit: u16, before: usize, after: usize) -> u16
 pub fn go_to(m: Machine, mmm: u16) -> Machine
     ensures { result ≡ rule.simple (Jump mmm) 0 0 m }
 {
-    let mut after = m;
-    after.pc = mmm;
-    after
+    Machine { pc: mmm, ..m }
 }
 
 // BMMM  Go to 0MMM + V0.
 pub fn go_to_plus_v0(m: Machine, mmm: u16) -> Machine
     ensures { result ≡ rule.simple (JumpFrom mmm) 0 0 m }
 {
-    let mut after = m;
-    after.pc = mmm % 4096 + (v(m, 0) as u16);
-    after
+    go_to(m, mmm % 4096 + u16::from(v(m, 0)))
 }
 
 // 2MMM  Do subroutine at 0MMM (must end with 00EE). The address behind this instruction goes on the stack: 00EE comes back to it.
-pub fn do_subroutine(m: Machine, mmm: u16) -> Machine
+pub fn do_subroutine(mut m: Machine, mmm: u16) -> Machine
     requires { (m.pc ≤ 4094) × (m.depth < 12) }
     ensures { result ≡ rule.called mmm m }
 {
-    let at = m.depth as usize;
-    let mut after = m;
-    after.stack[at] = m.pc + 2;
-    after.depth += 1;
-    after.pc = mmm;
-    after
+    m.stack[usize::from(m.depth)] = m.pc + 2;
+    m.depth += 1;
+    m.pc = mmm;
+    m
 }
 
 // 00EE  Return from subroutine. The entry of the stack that is left is 0 again.
-pub fn return_from_subroutine(m: Machine) -> Machine
+pub fn return_from_subroutine(mut m: Machine) -> Machine
     requires { (0 < m.depth) × (m.depth ≤ 12) }
     ensures { result ≡ rule.returned m }
 {
-    let at = (m.depth - 1) as usize;
-    let mut after = m;
-    after.depth = m.depth - 1;
-    after.pc = m.stack[at];
-    after.stack[at] = 0;
-    after
+    m.depth -= 1;
+    let at = usize::from(m.depth);
+    m.pc = m.stack[at];
+    m.stack[at] = 0;
+    m
 }
 
 // 3XKK  Skip next instruction if VX = KK.
@@ -296,7 +234,7 @@ pub fn add_kk(m: Machine, x: u8, kk: u8) -> Machine
     requires { m.pc ≤ 4094 }
     ensures { result ≡ rule.simple (Add x kk) 0 0 m }
 {
-    let_v(m, x, std::num::wrapping_add_u8(v(m, x), kk))
+    let_v(m, x, v(m, x).wrapping_add(kk))
 }
 
 // 8XY0  Let VX = VY.
@@ -330,8 +268,8 @@ pub fn add_vy(m: Machine, x: u8, y: u8) -> Machine
 {
     let vx = v(m, x);
     let vy = v(m, y);
-    let sum = std::num::wrapping_add_u8(vx, vy);
-    let_v_and_flag(m, x, sum, 0xFF < (vx as u16) + (vy as u16))
+    let (sum, past) = vx.overflowing_add(vy);
+    let_v_and_flag(m, x, sum, past)
 }
 
 // 8XY5  Let VX = VX - VY (VF = 00 if VX < VY, VF = 01 if VX g.e. VY).
@@ -341,8 +279,7 @@ pub fn subtract_vy(m: Machine, x: u8, y: u8) -> Machine
 {
     let vx = v(m, x);
     let vy = v(m, y);
-    let difference = std::num::wrapping_sub_u8(vx, vy);
-    let_v_and_flag(m, x, difference, vy <= vx)
+    let_v_and_flag(m, x, vx.wrapping_sub(vy), vy <= vx)
 }
 
 // The next four are not in the manual's table: the machine has them, and the second edition lists them.
@@ -371,8 +308,7 @@ pub fn subtract_from_vy(m: Machine, x: u8, y: u8) -> Machine
 {
     let vx = v(m, x);
     let vy = v(m, y);
-    let difference = std::num::wrapping_sub_u8(vy, vx);
-    let_v_and_flag(m, x, difference, vx <= vy)
+    let_v_and_flag(m, x, vy.wrapping_sub(vx), vx <= vy)
 }
 
 // 8XYE  Let VX = VY doubled. VF is the bit that is lost, the highest.
@@ -381,8 +317,7 @@ pub fn double_vy(m: Machine, x: u8, y: u8) -> Machine
     ensures { result ≡ rule.simple (Double x y) 0 0 m }
 {
     let vy = v(m, y);
-    let doubled = (2 * (vy as u16) % 256) as u8;
-    let_v_and_flag(m, x, doubled, vy / 128 % 2 == 1)
+    let_v_and_flag(m, x, vy.wrapping_mul(2), vy / 128 % 2 == 1)
 }
 
 // FX07  Let VX = current timer value.
@@ -393,18 +328,11 @@ pub fn let_timer(m: Machine, x: u8) -> Machine
     let_v(m, x, m.timers.delay)
 }
 
-// The lowest key that is down, of sixteen of which one is.
+// The lowest key that is down, and F where none below it is: bit k of the key bits is key k.
 fn lowest_key(keys: u16) -> u8
     ensures { result ≡ rule.lowest_from 15 0 keys }
 {
-    let mut key = 0;
-    while key < 15 {
-        if is_down(keys, key) {
-            return key;
-        }
-        key += 1;
-    }
-    key
+    keys.trailing_zeros().min(15) as u8
 }
 
 // FX0A  Let VX = hex key digit (waits for any key pressed). The machine never stops: while it waits PC stays, and the instruction is carried out
@@ -413,13 +341,16 @@ pub fn let_key(m: Machine, x: u8, keys: u16) -> Machine
     requires { m.pc ≤ 4094 }
     ensures { result ≡ rule.awaited x keys m m.wait }
 {
-    let wait = m.wait;
-    match wait {
+    match m.wait {
         Wait::Idle => {
             if keys == 0 {
                 return m;
             }
-            with_wait(m, Wait::Held(lowest_key(keys)))
+            let held = lowest_key(keys);
+            Machine {
+                wait: Wait::Held(held),
+                ..m
+            }
         }
         Wait::Held(key) => {
             if is_down(keys, key) {
@@ -431,35 +362,23 @@ pub fn let_key(m: Machine, x: u8, keys: u16) -> Machine
 }
 
 // FX15  Set timer = VX (01 = 1/60 second).
-pub fn set_timer(m: Machine, x: u8) -> Machine
+pub fn set_timer(mut m: Machine, x: u8) -> Machine
     requires { m.pc ≤ 4094 }
     ensures { result ≡ rule.simple (ToDelay x) 0 0 m }
 {
-    let delay = v(m, x);
-    let timers = Timers {
-        delay,
-        tone: m.timers.tone,
-    };
-    let mut after = m;
-    after.timers = timers;
-    after.pc += 2;
-    after
+    m.timers.delay = v(m, x);
+    m.pc += 2;
+    m
 }
 
 // FX18  Set tone duration = VX (01 = 1/60 second).
-pub fn set_tone(m: Machine, x: u8) -> Machine
+pub fn set_tone(mut m: Machine, x: u8) -> Machine
     requires { m.pc ≤ 4094 }
     ensures { result ≡ rule.simple (ToTone x) 0 0 m }
 {
-    let tone = v(m, x);
-    let timers = Timers {
-        delay: m.timers.delay,
-        tone,
-    };
-    let mut after = m;
-    after.timers = timers;
-    after.pc += 2;
-    after
+    m.timers.tone = v(m, x);
+    m.pc += 2;
+    m
 }
 
 // AMMM  Let I = 0MMM.
@@ -475,7 +394,7 @@ pub fn add_to_i(m: Machine, x: u8) -> Machine
     requires { m.pc ≤ 4094 }
     ensures { result ≡ rule.simple (AddIndex x) 0 0 m }
 {
-    let_pointer(m, std::num::wrapping_add_u16(m.i, v(m, x) as u16))
+    let_pointer(m, m.i.wrapping_add(u16::from(v(m, x))))
 }
 
 // FX29  Let I = 5-byte display pattern for LSD of VX: the sixteen digits stand from 0000 on, five bytes each.
@@ -483,20 +402,19 @@ pub fn let_i_digit(m: Machine, x: u8) -> Machine
     requires { m.pc ≤ 4094 }
     ensures { result ≡ rule.simple (Digit x) 0 0 m }
 {
-    let_pointer(m, 5 * ((v(m, x) % 16) as u16))
+    let_pointer(m, 5 * u16::from(v(m, x) % 16))
 }
 
 // FX33  Let MI = 3-decimal digit equivalent of VX (I unchanged): hundreds, tens, ones.
-pub fn store_decimal(m: Machine, x: u8, memory: &mut [u8]) -> Machine
+pub fn store_decimal(mut m: Machine, x: u8, memory: &mut [u8]) -> Machine
     requires { Within 3 m memory.old }
     ensures { (result ≡ rule.onward m) × (memory.new ≡ over memory.old m.i (digits_of (reg m x)) 3) }
 {
     let vx = v(m, x);
     let digits = [vx / 100, vx / 10 % 10, vx % 10];
-    put(memory, m.i as usize, &digits);
-    let mut after = m;
-    after.pc += 2;
-    after
+    put(memory, usize::from(m.i), &digits);
+    m.pc += 2;
+    m
 }
 
 // FX55  Let MI = V0:VX (I = I + X + 1).
@@ -506,37 +424,32 @@ pub fn store(m: Machine, x: u8, memory: &mut [u8]) -> Machine
         × (memory.new ≡ over memory.old m.i (take (up_to x) m.v) (up_to x)) }
 {
     let count = up_to(x);
-    let variables = m.v;
-    put(memory, m.i as usize, &variables[..count]);
+    put(memory, usize::from(m.i), &m.v[..count]);
     let_pointer(m, m.i + count as u16)
 }
 
 // FX65  Let V0:VX = MI (I = I + X + 1).
-pub fn fetch(m: Machine, x: u8, memory: &[u8]) -> Machine
+pub fn fetch(mut m: Machine, x: u8, memory: &[u8]) -> Machine
     requires { Within (up_to x) m memory.now }
     ensures { result ≡ rule.onward (with_i (m.i + up_to x) (with_v (part memory.now m.i (up_to x) ++ drop (up_to x) m.v) m)) }
 {
     let count = up_to(x);
-    let at = m.i as usize;
-    let mut variables = m.v;
-    put_first(&mut variables, &memory[at..at + count]);
-    let mut after = m;
-    after.v = variables;
-    let_pointer(after, m.i + count as u16)
+    let at = usize::from(m.i);
+    put(&mut m.v, 0, &memory[at..at + count]);
+    let_pointer(m, m.i + count as u16)
 }
 
 // 00E0  Erase display (all 0's).
-pub fn erase(m: Machine, spots: &mut [u8]) -> Machine
+pub fn erase(mut m: Machine, spots: &mut [u8]) -> Machine
     requires { (m.pc ≤ 4094) × AreSpots spots.old × (lit_refusal m.lit (picture_of spots.old) (replicate picture_size 0) ≡ 0) }
     ensures { (result ≡ with_lit (lit_after m.lit (picture_of spots.old) (replicate picture_size 0)) (rule.onward m))
         × (picture_of spots.new ≡ replicate picture_size 0) × AreSpots spots.new }
 {
     let before = spots::lit(spots);
     spots::erase(spots);
-    let mut after = m;
-    after.lit = counted(m.lit, before, 0);
-    after.pc += 2;
-    after
+    m.lit = counted(m.lit, before, 0);
+    m.pc += 2;
+    m
 }
 
 // DXYN  Show n-byte MI pattern at VX-VY coordinates. I unchanged. MI pattern is combined with existing display via EXCLUSIVE-OR function.
@@ -551,13 +464,14 @@ pub fn show(m: Machine, x: u8, y: u8, pattern: &[u8], spots: &mut [u8]) -> Machi
         × (picture_of spots.new ≡ drawn_by m x y pattern.now (picture_of spots.old))
         × AreSpots spots.new }
 {
-    let column = (v(m, x) % 64) as usize;
-    let row = (v(m, y) % 32) as usize;
+    let column = usize::from(v(m, x) % 64);
+    let row = usize::from(v(m, y) % 32);
     let touched = spots::darkened(spots, pattern, column, row);
     let before = spots::lit(spots);
     spots::draw(spots, pattern, column, row);
     let lit = counted(m.lit, before, spots::lit(spots));
-    let mut after = let_v(m, 0xF, flag(0 < touched));
-    after.lit = lit;
-    after
+    Machine {
+        lit,
+        ..let_v(m, 0xF, u8::from(0 < touched))
+    }
 }

@@ -1,8 +1,8 @@
 -- A step told without a history: the board of the rules beside the picture's spots, what an instruction answers, and what it leaves.
-use Rattle.std.specs.Prelude.{◌≡◌, List, ℕ, eqb}
+use Rattle.std.specs.Prelude.{◌≡◌, List, ℕ, eqb, Result, Ok, Err}
 use Rattle.rules.specs.declared.Machine.{Machine}
 use Rattle.rules.specs.declared.Op.{Op}
-use Rattle.rules.specs.declared.Outcome.{Outcome}
+use Rattle.rules.specs.declared.Refusal.{Refusal}
 use Rattle.rules.specs.Number.{pick, or_later}
 use Rattle.rules.specs.Refusal.{number}
 use Rattle.rules.specs.Step.{Board, refusal_of, lit_refusal, counted, after, picture_after}
@@ -20,12 +20,17 @@ pub record Playable (m : Machine) (memory spots : List ℕ) : Type 0 where
   pub are : AreSpots spots
 
 -- an outcome, and a board handed back as a machine, memory and spots
-pub record Leaves (refusal : ℕ) (b : Board) (o : Outcome) (m : Machine) (mem spots : List ℕ) : Type 0 where
+pub record Leaves {A : Type 0} (refusal : ℕ) (b : Board) (o : Result A Refusal) (m : Machine) (mem spots : List ℕ) : Type 0 where
   pub says : number o ≡ refusal
   pub machine : m ≡ b.machine
   pub memory : mem ≡ b.memory
   pub picture : picture_of spots ≡ b.picture
   pub are : AreSpots spots
+
+-- a refused step hands nothing back, and leaves the machine as it came
+abbrev pub machine_after : Machine → Result Machine Refusal → Machine
+machine_after m (Ok after) = after
+machine_after m (Err _) = m
 
 -- ---- an instruction: 2 to 6, then the late 10; and the board after it, or as it was
 

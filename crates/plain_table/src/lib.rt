@@ -24,13 +24,11 @@ fn with_last_0(n: u8, line: Simple) -> Op
 fn skip_on_key(x: u8, kk: u8) -> Op
     ensures { result ≡ key_op x kk }
 {
-    if kk == 0x9E {
-        return Op::Plain(Simple::SkipDown(x));
+    match kk {
+        0x9E => Op::Plain(Simple::SkipDown(x)),
+        0xA1 => Op::Plain(Simple::SkipUp(x)),
+        _ => Op::Unlisted,
     }
-    if kk == 0xA1 {
-        return Op::Plain(Simple::SkipUp(x));
-    }
-    Op::Unlisted
 }
 
 // A line that only the second edition of the table has.
@@ -70,7 +68,7 @@ pub fn look_up(edition: Edition, hi: u8, lo: u8) -> Op
     let x = hi % 16;
     let y = lo / 16;
     let n = lo % 16;
-    let mmm = (x as u16) * 256 + (lo as u16);
+    let mmm = u16::from_be_bytes([x, lo]);
 
     // 1MMM, BMMM, 2MMM, 00EE
     if d == 0x1 {

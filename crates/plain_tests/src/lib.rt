@@ -14,10 +14,7 @@ pub fn in_memory(m: Machine, n: usize) -> bool
     requires { n ≤ 256 }
     ensures { result ≡ leb (rule.reach m n) m.end }
 {
-    if n == 0 {
-        return true;
-    }
-    m.i as usize + n <= m.end as usize
+    n == 0 || usize::from(m.i) + n <= usize::from(m.end)
 }
 
 // Whether the number of lit spots that the machine has with it stays from 0 to 2,048, where so many were lit before a change of the picture and so
@@ -26,9 +23,6 @@ pub fn stays_in_range(lit: u16, before: usize, after: usize) -> bool
     requires { (before ≤ 2048) × (after ≤ 2048) }
     ensures { (p q : List ℕ) → before ≡ lit_spots p → after ≡ lit_spots q → rule.lit_refusal lit p q ≡ pick result 0 10 }
 {
-    let sum = lit as usize + after;
-    if sum < before {
-        return false;
-    }
-    sum <= before + Machine::SPOTS
+    let sum = usize::from(lit) + after;
+    before <= sum && sum <= before + Machine::SPOTS
 }

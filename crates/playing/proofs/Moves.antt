@@ -1,41 +1,26 @@
 -- A play, move by move: what is still to be done from here gives the same answer; and from a sound start it is the plain list's.
 use mathlib.Core.Path.{◌≡◌, refl, ◌∙◌}
-use mathlib.Core.Bool.{true, false}
+use mathlib.Core.Bool.{true}
 use mathlib.Core.List.{List}
 use Prim.Native.Nat.{ℕ, ◌+◌, ◌≤◌, ◌<◌}
 use native.Mathlib.Omega.{arith}
 use lib.ListN.{length, drop, get_or, drop_of_length-le}
-use borrow.Author.Tests.{eq-eqb, ne_eqb, le-leb, lt-leb, lt-ltb}
+use borrow.Author.Tests.{eq-eqb, ne_eqb, le-leb, lt-ltb}
 use Rattle.rules.specs.declared.Machine.{Machine}
 use Rattle.rules.specs.declared.Trail.{Trail}
 use Rattle.rules.specs.declared.Refusal.{Refusal}
-use Rattle.rules.specs.declared.Outcome.{Outcome}
-use Rattle.rules.specs.declared.Outcome.TheVariants.{Refused}
-use Rattle.rules.specs.Refusal.{number}
+use Rattle.std.specs.Prelude.{Err, ⊤}
+use Rattle.rules.specs.Refusal.{Outcome, number, number_of}
 use Rattle.rules.specs.World.{World, Answer, world, board_of, places}
 use Rattle.rules.specs.Run.{unrefused, lists_fit, all_moves, moves_fit, move_of, moves_of, made, play_from, play, play_refusal}
 use Rattle.rules.specs.Typed.{Below, TypedBoard}
 use Rattle.rules.specs.Past.{Start, Told, follow, first}
 use Rattle.rules.specs.Promise.{Gives}
-use Rattle.rules.proofs.Given.{Back, tests, handed, refused_some}
+use Rattle.rules.proofs.Given.{Back, tests, handed, some_number}
 use Rattle.rules.proofs.StepsBack.{steps_back}
 use Rattle.rules.proofs.RunsPlay.{plays_typed}
 use Rattle.entries.proofs.Ticks.{gives_world}
 use Rattle.running.proofs.Entries.{SameLength, drop_next}
-
--- ---- the bytes
-
-pub no_move : (l : List ℕ) (i : ℕ) → i < length l → 3 < get_or l i 0 → all_moves (drop i l) ≡ false
-unfolding all_moves
-no_move l i h past = rw (drop_next l i h, lt-leb (get_or l i 0) 3 past)
-
-pub a_move : (l : List ℕ) (i : ℕ) → i < length l → get_or l i 0 ≤ 3 → all_moves (drop i l) ≡ all_moves (drop (i + 1) l)
-unfolding all_moves
-a_move l i h fits = rw (drop_next l i h, le-leb (get_or l i 0) 3 fits)
-
-pub no_more : (l : List ℕ) (i : ℕ) → length l ≤ i → all_moves (drop i l) ≡ true
-unfolding all_moves
-no_more l i h = rw (drop_of_length-le l {i = i} h)
 
 -- ---- after i moves, with what the last one answered
 
@@ -74,11 +59,11 @@ module _ (moves keys randoms : List ℕ) (w₀ : World) (o : Outcome) (m : Machi
 -- ---- the call
 
 module _ (moves keys randoms : List ℕ) (w : World) where
-  pub play_refused : (r : Refusal) → number (Refused r) ≡ tests w (moves_fit moves keys randoms) → Back (play moves keys randoms w) (Refused r) w
+  pub play_refused : (r : Refusal) → number_of r ≡ tests w (moves_fit moves keys randoms) → Back {A = ⊤} (play moves keys randoms w) (Err r) w
   unfolding play play_refusal
   play_refused r e =
       let refusal = play_refusal moves keys randoms w in
-      rw (ne_eqb refusal 0 (λ z. refused_some r (e ∙ z))) (handed refusal w (Refused r) e)
+      rw (ne_eqb refusal 0 (λ z. some_number r (e ∙ z))) (handed refusal w (Err r) e)
 
   pub play_admitted : tests w (moves_fit moves keys randoms) ≡ 0 → play moves keys randoms w ≡ play_from (moves_of moves keys randoms) (unrefused w)
   unfolding play play_refusal
@@ -96,9 +81,9 @@ module _ (moves keys randoms : List ℕ) (w : World) where
         le-leb (w.trail.kept + w.trail.ahead) (places w.history) (omega (arith, s.kept, s.ahead)),
       )
 
-  pub start_not_refused : (r : Refusal) → number (Refused r) ≡ tests w (moves_fit moves keys randoms) → Start w → lists_fit moves keys randoms ≡ true
+  pub start_not_refused : (r : Refusal) → number_of r ≡ tests w (moves_fit moves keys randoms) → Start w → lists_fit moves keys randoms ≡ true
       → all_moves moves ≡ true → ⊥
-  start_not_refused r e s lists all = refused_some r (e ∙ start_admitted s lists all)
+  start_not_refused r e s lists all = some_number r (e ∙ start_admitted s lists all)
 
   pub play_told : TypedBoard (board_of w) → Below 65536 keys → Below 256 randoms → Start w → (m : Machine) (t : Trail) (mem pic his : List ℕ) (o : Outcome)
       → Gives (play_from (moves_of moves keys randoms) (unrefused w)) o m t mem pic his

@@ -10,13 +10,13 @@ use std::io::Read;
 pub fn read_full<R: Read>(reader: &mut R, buffer: &mut [u8]) -> io::Result<usize>
     ensures { ReadsAtMost result buffer.new }
 {
+    // A loop, since std's `read_exact` takes input that is shorter for an error, and `read_to_end` reads into the heap.
     let mut done = 0;
     while done < buffer.len() {
-        let n = reader.read(&mut buffer[done..])?;
-        if n == 0 {
-            break;
+        match reader.read(&mut buffer[done..])? {
+            0 => break,
+            n => done += n,
         }
-        done += n;
     }
     Ok(done)
 }

@@ -1,32 +1,25 @@
 // A part of the state read or changed, and the instructions that call, return, or wait for a key. The variables and the stack are lent;
 // the rest of the state is taken by value and handed back. Each contract speaks of the whole machine, beside any stack or any variables
-// that the function is not lent.
+// that the function is not lent. That PC is at most 4,094 is asked where PC goes on, and is no type's: a core may have any PC, and a step of one
+// that is above is refused.
 #![tactic(auto)]
 
 ghost use Rattle.std.specs.Prelude.{◌≡◌, List, ℕ, ◌≤◌, ◌<◌, ◌%◌, get_or};
-ghost use Rattle.rules.specs.Number.{pick};
 ghost use Rattle.rules.specs.State.{up_to, with_reg, with_i, with_wait, with_lit};
 ghost use Rattle.rules.specs.Registers as state;
 ghost use Rattle.rules.specs.declared.Wait.TheVariants.{Idle};
 ghost use Rattle.parts.specs.Whole.{whole};
 
 use parts::Core;
-use rules::{Machine, Timers, Wait};
+use rules::{Machine, Wait};
 
 // ---- numbers
-
-// 1 where the test holds, and else 0.
-pub fn flag(test: bool) -> u8
-    ensures { result ≡ pick test 1 0 }
-{
-    if test { 1 } else { 0 }
-}
 
 // Whether key k is down; there is none above F.
 pub fn down(keys: u16, k: u8) -> bool
     ensures { result ≡ state.down keys k }
 {
-    if k < 16 { (keys >> k) % 2 == 1 } else { false }
+    (k < 16) && (keys >> k) % 2 == 1
 }
 
 // ---- a part of the machine read, and a part changed
@@ -46,28 +39,26 @@ pub fn up_to(x: u8) -> usize
 }
 
 // PC goes past this instruction.
-pub fn onward(c: Core) -> Core
+pub fn onward(mut c: Core) -> Core
     requires { c.pc ≤ 4094 }
     ensures { (v stack : List ℕ) → whole result v stack ≡ state.onward (whole c v stack) }
 {
-    let mut c = c;
     c.pc += 2;
     c
 }
 
 // The result goes to VX, and PC goes on.
-pub fn put(c: Core, v: &mut [u8; 16], x: u8, b: u8) -> Core
+pub fn put(mut c: Core, v: &mut [u8; 16], x: u8, b: u8) -> Core
     requires { c.pc ≤ 4094 }
     ensures { (stack : List ℕ) → whole result v.new stack ≡ state.onward (with_reg x b (whole c v.old stack)) }
 {
     v[(x % 16) as usize] = b;
-    let mut c = c;
     c.pc += 2;
     c
 }
 
 // The flag is written after the result, so it wins where X is F.
-pub fn put_both(c: Core, v: &mut [u8; 16], x: u8, b: u8, f: u8) -> Core
+pub fn put_both(mut c: Core, v: &mut [u8; 16], x: u8, b: u8, f: u8) -> Core
     requires { c.pc ≤ 4094 }
     ensures { (stack : List ℕ) → whole result v.new stack ≡ state.onward
         (with_reg 0xF f (with_reg x b (whole c v.old stack))) }
@@ -75,51 +66,33 @@ pub fn put_both(c: Core, v: &mut [u8; 16], x: u8, b: u8, f: u8) -> Core
     let at = (x % 16) as usize;
     v[at] = b;
     v[0xF] = f;
-    let mut c = c;
     c.pc += 2;
     c
 }
 
 // I is set, and PC goes on.
-pub fn point(c: Core, i: u16) -> Core
+pub fn point(mut c: Core, i: u16) -> Core
     requires { c.pc ≤ 4094 }
     ensures { (v stack : List ℕ) → whole result v stack ≡ state.onward (with_i i (whole c v stack)) }
 {
-    let mut c = c;
     c.i = i;
     c.pc += 2;
     c
 }
 
 // The number of lit spots is set.
-pub fn light(c: Core, lit: u16) -> Core
+pub fn light(mut c: Core, lit: u16) -> Core
     ensures { (v stack : List ℕ) → whole result v stack ≡ with_lit lit (whole c v stack) }
 {
-    let mut c = c;
     c.lit = lit;
     c
 }
 
-// A field that is an enum is not stored to, so the core is written anew. The timers are written one by one: copied as a whole they are a number
-// of two bytes to the compiler, which it puts together and takes apart at every step.
-fn with_wait(c: Core, w: Wait) -> Core
+fn with_wait(mut c: Core, w: Wait) -> Core
     ensures { (v stack : List ℕ) → whole result v stack ≡ with_wait w (whole c v stack) }
 {
-    let timers = Timers {
-        delay: c.timers.delay,
-        tone: c.timers.tone,
-    };
-    let edition = c.edition;
-    Core {
-        i: c.i,
-        pc: c.pc,
-        depth: c.depth,
-        timers,
-        wait: w,
-        edition,
-        lit: c.lit,
-        end: c.end,
-    }
+    c.wait = w;
+    c
 }
 
 // Every instruction but FX0A leaves the wait so.
@@ -132,24 +105,22 @@ pub fn idle(c: Core) -> Core
 // ---- the instructions that call, return, or wait for a key
 
 // 2MMM: the address behind this instruction is the last return address.
-pub fn called(c: Core, stack: &mut [u16; Machine::STACK], a: u16) -> Core
+pub fn called(mut c: Core, stack: &mut [u16; Machine::STACK], a: u16) -> Core
     requires { (c.pc ≤ 4094) × (c.depth < 12) }
     ensures { (v : List ℕ) → whole result v stack.new ≡ state.called a (whole c v stack.old) }
 {
     let at = c.depth as usize;
     stack[at] = c.pc + 2;
-    let mut c = c;
     c.depth += 1;
     c.pc = a;
     c
 }
 
 // 00EE: the last return address is taken, and its entry is 0 again.
-pub fn returned(c: Core, stack: &mut [u16; Machine::STACK]) -> Core
+pub fn returned(mut c: Core, stack: &mut [u16; Machine::STACK]) -> Core
     requires { (0 < c.depth) × (c.depth ≤ 12) }
     ensures { (v : List ℕ) → whole result v stack.new ≡ state.returned (whole c v stack.old) }
 {
-    let mut c = c;
     c.depth -= 1;
     let at = c.depth as usize;
     c.pc = stack[at];
@@ -161,14 +132,7 @@ pub fn returned(c: Core, stack: &mut [u16; Machine::STACK]) -> Core
 fn lowest(keys: u16) -> u8
     ensures { result ≡ state.lowest_from 15 0 keys }
 {
-    let mut k = 0;
-    while k < 15 {
-        if down(keys, k) {
-            return k;
-        }
-        k += 1;
-    }
-    k
+    keys.trailing_zeros().min(15) as u8
 }
 
 // FX0A: the lowest key that is down is held until it is up.
@@ -176,8 +140,7 @@ pub fn awaited(x: u8, keys: u16, c: Core, v: &mut [u8; 16]) -> Core
     requires { c.pc ≤ 4094 }
     ensures { (stack : List ℕ) → whole result v.new stack ≡ state.awaited x keys (whole c v.old stack) c.wait }
 {
-    let wait = c.wait;
-    match wait {
+    match c.wait {
         Wait::Idle => {
             if keys == 0 {
                 return c;

@@ -8,83 +8,58 @@ ghost use Rattle.rules.specs.Promise.{Gives};
 ghost use Rattle.rules.specs.Rows.{bytes_of};
 ghost use Rattle.rules.proofs.Ready.{Ready};
 
-use parts::Answer;
-use rules::{Machine, Outcome, Refusal, Trail};
+use rules::{Machine, Refusal, Trail};
 
 // A step back in a world that passed the tests 9 and 10.
 fn undo(
-    machine: Machine,
-    trail: Trail,
-    memory: &mut [u8],
-    rows: &mut [u64],
+    machine: &mut Machine,
+    trail: &mut Trail,
+    memory: &mut [u8; Machine::MEMORY],
+    rows: &mut [u64; Machine::ROWS],
     history: &[u8],
-) -> Answer
-    requires { Ready (world machine trail memory.old (bytes_of rows.old) history.now) }
+) -> Result<(), Refusal>
+    requires { Ready (world machine.old trail.old memory.old (bytes_of rows.old) history.now) }
     ensures { Gives
-        (rule.back (world machine trail memory.old (bytes_of rows.old) history.now)) result.outcome
-        result.machine result.trail memory.new (bytes_of rows.new) history.now }
+        (rule.back (world machine.old trail.old memory.old (bytes_of rows.old) history.now)) result
+        machine.new trail.new memory.new (bytes_of rows.new) history.now }
 {
     if trail.kept == 0 {
-        return Answer {
-            outcome: Outcome::Refused(Refusal::NothingKept),
-            machine,
-            trail,
-        };
+        return Err(Refusal::NothingKept);
     }
     let last = trail::place_before(trail.next, fitting::places(history));
-    let at = history::PLACE * last;
-    let end = at + history::PLACE;
-    let old = history::read(&history[at..end], machine);
-    if old.damaged {
-        return Answer {
-            outcome: Outcome::Refused(Refusal::Damaged),
-            machine,
-            trail,
-        };
-    }
-    let change = old.change;
-    let spots = putting_back::would_put_back(change, &history[at..end], rows);
-    let late = lit::late(machine.lit, spots);
-    let Outcome::Done = late else {
-        return Answer {
-            outcome: late,
-            machine,
-            trail,
-        };
+    let place = history::place(history, last);
+    let Some(old) = history::read(place, *machine) else {
+        return Err(Refusal::Damaged);
     };
-    putting_back::put_back(change, &history[at..end], memory, rows);
-    let mut before = old.machine;
-    before.lit = lit::counted(machine.lit, spots);
-    Answer {
-        outcome: Outcome::Done,
-        machine: before,
-        trail: Trail {
-            next: last,
-            kept: trail.kept - 1,
-            ahead: trail.ahead + 1,
-        },
-    }
+    let spots = putting_back::would_put_back(old.change, place, rows);
+    lit::late(machine.lit, spots)?;
+    putting_back::put_back(old.change, place, memory, rows);
+    *machine = Machine {
+        lit: lit::counted(machine.lit, spots),
+        ..old.machine
+    };
+    *trail = Trail {
+        next: last,
+        kept: trail.kept - 1,
+        ahead: trail.ahead + 1,
+    };
+    Ok(())
 }
 
 // Goes one action back.
 pub fn back(
-    machine: Machine,
-    trail: Trail,
+    machine: &mut Machine,
+    trail: &mut Trail,
     memory: &mut [u8],
     rows: &mut [u64],
     history: &[u8],
-) -> Answer
+) -> Result<(), Refusal>
     ensures { Gives
-        (rule.back (world machine trail memory.old (bytes_of rows.old) history.now)) result.outcome
-        result.machine result.trail memory.new (bytes_of rows.new) history.now }
+        (rule.back (world machine.old trail.old memory.old (bytes_of rows.old) history.now)) result
+        machine.new trail.new memory.new (bytes_of rows.new) history.now }
 {
-    let outcome = judge::admitted(machine, trail, memory, rows, history, true);
-    let Outcome::Done = outcome else {
-        return Answer {
-            outcome,
-            machine,
-            trail,
-        };
-    };
+    judge::admitted(*machine, *trail, memory, rows, history, true)?;
+    let memory = memory.as_mut_array().unwrap();
+    let rows = rows.as_mut_array().unwrap();
     undo(machine, trail, memory, rows, history)
 }

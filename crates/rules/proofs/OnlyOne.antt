@@ -4,14 +4,13 @@ use mathlib.Core.Path.{◌≡◌, refl, sym, ap, ◌∙◌}
 use mathlib.Core.List.{List, [], ◌∷◌}
 use Prim.Native.Nat.{ℕ, zero, suc, ◌^◌}
 use lib.ListN.{get_or}
+use Rattle.std.specs.Prelude.{Ok, Err}
 use Rattle.rules.specs.declared.Machine.{Machine}
 use Rattle.rules.specs.declared.Trail.{Trail}
 use Rattle.rules.specs.declared.Refusal.{Refusal}
 use Rattle.rules.specs.declared.Refusal.TheVariants.{PcPastEnd, Unlisted, MachineCode, StackFull, StackEmpty, MemoryPastEnd}
 use Rattle.rules.specs.declared.Refusal.TheVariants.{NothingKept, ProgramLength, BufferLength, Unsound, Damaged, NothingAhead}
-use Rattle.rules.specs.declared.Outcome.{Outcome}
-use Rattle.rules.specs.declared.Outcome.TheVariants.{Done, Refused}
-use Rattle.rules.specs.Refusal.{number_of, number}
+use Rattle.rules.specs.Refusal.{Outcome, done, number_of, number}
 use Rattle.rules.specs.World.{World, Answer}
 use Rattle.rules.specs.Call.{step}
 use Rattle.rules.specs.Run.{Ran, run}
@@ -29,10 +28,10 @@ refusals =
 
 -- the outcome that a number names
 named : ℕ → Outcome
-named zero = Done
-named (suc n) = Refused (get_or refusals n PcPastEnd)
+named zero = done
+named (suc n) = Err (get_or refusals n PcPastEnd)
 
-refused_named : (r : Refusal) → named (number_of r) ≡ Refused r
+refused_named : (r : Refusal) → named (number_of r) ≡ Err r
 unfolding named refusals
 refused_named PcPastEnd = refl
 refused_named Unlisted = refl
@@ -49,14 +48,14 @@ refused_named NothingAhead = refl
 
 number_named : (o : Outcome) → named (number o) ≡ o
 unfolding named
-number_named Done = refl
-number_named (Refused r) = refused_named r
+number_named (Ok _) = refl
+number_named (Err r) = refused_named r
 
 pub one_outcome : (o p : Outcome) → number o ≡ number p → o ≡ p
 one_outcome o p e = sym (number_named o) ∙ ap named e ∙ number_named p
 
 -- all that a call hands back: the picture as rows, each of 64 bits by its type
-pub record Result : Type 0 where
+pub record Handed : Type 0 where
   pub outcome : Outcome
   pub machine : Machine
   pub trail : Trail
@@ -64,16 +63,16 @@ pub record Result : Type 0 where
   pub rows : List ℕ
   pub history : List ℕ
 
-abbrev pub Typed : Result → Type 0
+abbrev pub Typed : Handed → Type 0
 Typed r = Below (2 ^ 64) r.rows
 
-abbrev pub Allowed : Answer → Result → Type 0
+abbrev pub Allowed : Answer → Handed → Type 0
 Allowed a r = Gives a r.outcome r.machine r.trail r.memory (bytes_of r.rows) r.history
 
-abbrev pub AllowedRun : Ran → ℕ → Result → Type 0
+abbrev pub AllowedRun : Ran → ℕ → Handed → Type 0
 AllowedRun a n r = GivesRun a n r.outcome r.machine r.trail r.memory (bytes_of r.rows) r.history
 
-module _ (r s : Result) (b : Typed r) (d : Typed s) where
+module _ (r s : Handed) (b : Typed r) (d : Typed s) where
   pub only_one : (a : Answer) → Allowed a r → Allowed a s → r ≡ s
   only_one a g h =
       let o = one_outcome r.outcome s.outcome (g.says ∙ sym h.says) in

@@ -8,6 +8,7 @@ pub mod Registers
 pub mod Picture
 pub mod Memory
 pub mod Step
+pub mod Byte
 pub mod Record
 pub mod World
 pub mod Load

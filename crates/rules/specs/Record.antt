@@ -8,6 +8,7 @@ use Rattle.rules.specs.declared.Action.TheVariants.{Step, Tick}
 use Rattle.rules.specs.declared.Change.{Change}
 use Rattle.rules.specs.declared.Change.TheVariants.{Nothing, InMemory, InPicture}
 use Rattle.rules.specs.Number.{pick, word}
+use Rattle.rules.specs.Byte.{wait_of}
 use Rattle.rules.specs.State.{picture_size, stack_size}
 use Rattle.rules.specs.Memory.{part, over}
 use Rattle.rules.specs.Step.{Board, counted}
@@ -165,7 +166,7 @@ abbrev pub action_at : List ℕ → Action
 action_at r = pick (eqb (byte_at r at_kind) 1) (Step (word_at r at_keys) (byte_at r at_random)) Tick
 
 abbrev pub wait_at : List ℕ → Wait
-wait_at r = pick (eqb (byte_at r at_held) 0xFF) Idle (Held (byte_at r at_held))
+wait_at r = wait_of (byte_at r at_held)
 
 -- the old depth, its last return address put back, and nothing at or above it
 abbrev pub stack_at : List ℕ → List ℕ → List ℕ

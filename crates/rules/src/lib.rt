@@ -2,6 +2,9 @@
 #![tactic(auto)]
 
 ghost use Rattle.std.specs.Prelude.{◌≡◌};
+ghost use Rattle.rules.specs.Byte as byte;
+ghost use Rattle.rules.specs.Record as record_of;
+ghost use Rattle.rules.specs.Refusal as refusal;
 ghost use Rattle.rules.specs.State as state;
 
 // The delay timer and the tone timer.
@@ -11,11 +14,35 @@ pub struct Timers {
     pub tone: u8,
 }
 
-// What FX0A waits for: no key yet, or the release of the key that is held.
+// What FX0A waits for: no key yet, or the release of the key that is held. Not an Option: the rules name the two states (`held_sound`,
+// `held_byte`, `awaited`), and each stands as a byte of its own in a record and in an image.
 #[derive(Clone, Copy)]
 pub enum Wait {
     Idle,
     Held(u8),
+}
+
+// Its byte, in a record and in an image: the key that is held, and FF for none.
+impl From<Wait> for u8 {
+    ghost from_gives = { λ wait b. b ≡ record_of.held_byte wait };
+
+    fn from(wait: Wait) -> u8 {
+        match wait {
+            Wait::Idle => 0xFF,
+            Wait::Held(key) => key,
+        }
+    }
+}
+
+impl From<u8> for Wait {
+    ghost from_gives = { λ b wait. wait ≡ byte.wait_of b };
+
+    fn from(b: u8) -> Wait {
+        match b {
+            0xFF => Wait::Idle,
+            key => Wait::Held(key),
+        }
+    }
 }
 
 // The edition of the instruction set: the second has four operations more.
@@ -23,6 +50,32 @@ pub enum Wait {
 pub enum Edition {
     First,
     Second,
+}
+
+impl From<Edition> for u8 {
+    ghost from_gives = { λ edition b. b ≡ byte.edition_byte edition };
+
+    fn from(edition: Edition) -> u8 {
+        match edition {
+            Edition::First => 0,
+            Edition::Second => 1,
+        }
+    }
+}
+
+// A byte that names no edition is refused as an unsound state is.
+impl TryFrom<u8> for Edition {
+    type Error = Refusal;
+
+    ghost try_from_gives = { λ b edition. edition ≡ byte.edition_named b };
+
+    fn try_from(b: u8) -> Result<Edition, Refusal> {
+        match b {
+            0 => Ok(Edition::First),
+            1 => Ok(Edition::Second),
+            _ => Err(Refusal::Unsound),
+        }
+    }
 }
 
 // The machine's state, with the edition and the end of memory that a load chose and the number of lit spots of the picture.
@@ -167,9 +220,24 @@ pub enum Refusal {
     NothingAhead,
 }
 
-// What came of a call.
-#[derive(Clone, Copy)]
-pub enum Outcome {
-    Done,
-    Refused(Refusal),
+// Its number, as C is told it.
+impl From<Refusal> for u8 {
+    ghost from_gives = { λ why n. n ≡ refusal.number_of why };
+
+    fn from(why: Refusal) -> u8 {
+        match why {
+            Refusal::PcPastEnd => 1,
+            Refusal::Unlisted => 2,
+            Refusal::MachineCode => 3,
+            Refusal::StackFull => 4,
+            Refusal::StackEmpty => 5,
+            Refusal::MemoryPastEnd => 6,
+            Refusal::NothingKept => 7,
+            Refusal::ProgramLength => 8,
+            Refusal::BufferLength => 9,
+            Refusal::Unsound => 10,
+            Refusal::Damaged => 11,
+            Refusal::NothingAhead => 12,
+        }
+    }
 }

@@ -13,16 +13,16 @@ use borrow.Author.Tests.{leb-true, eqb-true, eq-eqb, ne_eqb}
 use Rattle.rules.specs.declared.Machine.{Machine}
 use Rattle.rules.specs.declared.Trail.{Trail}
 use Rattle.rules.specs.declared.Refusal.{Refusal}
-use Rattle.rules.specs.declared.Outcome.TheVariants.{Done, Refused}
+use Rattle.std.specs.Prelude.{Ok, Err, ⊤}
 use Rattle.rules.specs.Number.{pick}
-use Rattle.rules.specs.Refusal.{number}
+use Rattle.rules.specs.Refusal.{done, number_of}
 use Rattle.rules.specs.World.{World, Answer, world}
 use Rattle.rules.specs.Call.{step}
 use Rattle.rules.specs.Run.{Ran, ticked_by, run_from, total_from, total, lists_fit, run, run_refusal}
 use Rattle.rules.specs.Dark.{step_dark}
 use Rattle.rules.specs.Copied.{step_copied}
 use Rattle.rules.specs.Promise.{Gives, GivesRun}
-use Rattle.rules.proofs.Given.{tests, handed, refused_some}
+use Rattle.rules.proofs.Given.{tests, handed, gives_as, some_number}
 use Rattle.rules.proofs.Ready.{Ready, step_ready, ticks_ready}
 use Rattle.entries.proofs.Ticks.{gives_world, world_gives}
 
@@ -109,7 +109,7 @@ abbrev pub Totals : List ℕ → List ℕ → List ℕ → World → ℕ → ℕ
 Totals ticks keys randoms w₀ dark copied = (dark ≡ total_from step_dark ticks keys randoms w₀) × (copied ≡ total_from step_copied ticks keys randoms w₀)
 
 module _ (ticks keys randoms : List ℕ) (w₀ w : World) (i dark copied : ℕ) (h : Running ticks keys randoms w₀ w i dark copied) where
-  pub ended : length ticks ≤ i → GivesRun (run_from 0 ticks keys randoms w₀) i Done w.machine w.trail w.memory w.picture w.history
+  pub ended : length ticks ≤ i → GivesRun (run_from 0 ticks keys randoms w₀) i done w.machine w.trail w.memory w.picture w.history
   unfolding run_from
   ended past =
       rw (← h.same, drop_of_length-le ticks {i = i} past)
@@ -134,51 +134,51 @@ module _ (ticks keys randoms : List ℕ) (w₀ w : World) (i dark copied : ℕ) 
     opened =
         rw (drop_next ticks i more, drop_next keys i (omega (arith, h.lists.keys)), drop_next randoms i (omega (arith, h.lists.randoms))) at h.same
 
-    pub went_on : (m : Machine) (t : Trail) (mem pic his : List ℕ) (d k : ℕ) → Gives entry Done m t mem pic his
+    pub went_on : {A : Type 0} (x : A) (m : Machine) (t : Trail) (mem pic his : List ℕ) (d k : ℕ) → Gives entry (Ok x) m t mem pic his
         → d ≡ step_dark (ticks_of ticks w i) → d ≤ 120 → k ≡ step_copied (ticks_of ticks w i) → k ≤ 256
         → Running ticks keys randoms w₀ (world m t mem pic his) (i + 1) (dark + d) (copied + k)
-    went_on m t mem pic his d k g e l f s =
-        let at = gives_world entry Done m t mem pic his g in
-        let done = sym g.says in
+    went_on x m t mem pic his d k g e l f s =
+        let at = gives_world entry (Ok x) m t mem pic his g in
+        let passed = sym g.says in
         record {
           lists = h.lists;
           inside = omega arith;
           ready = rw at (step_ready (ticked_by (get_or ticks i 0) w) (ticks_ready (get_or ticks i 0) w h.ready) (get_or keys i 0) (get_or randoms i 0));
-          same = rw at (rw (eq-eqb entry.refusal 0 done) at opened);
-          spots = sum_on step_dark 120 ticks keys randoms w₀ w i dark h.spots h.lists more _ d done at e l;
-          bytes = sum_on step_copied 256 ticks keys randoms w₀ w i copied h.bytes h.lists more _ k done at f s;
+          same = rw at (rw (eq-eqb entry.refusal 0 passed) at opened);
+          spots = sum_on step_dark 120 ticks keys randoms w₀ w i dark h.spots h.lists more _ d passed at e l;
+          bytes = sum_on step_copied 256 ticks keys randoms w₀ w i copied h.bytes h.lists more _ k passed at f s;
         }
 
-    pub stopped : (r : Refusal) (m : Machine) (t : Trail) (mem pic his : List ℕ) → Gives entry (Refused r) m t mem pic his
-        → GivesRun (run_from 0 ticks keys randoms w₀) i (Refused r) m t mem pic his
+    pub stopped : {A : Type 0} (r : Refusal) (m : Machine) (t : Trail) (mem pic his : List ℕ) → Gives {A = A} entry (Err r) m t mem pic his
+        → GivesRun {A = ⊤} (run_from 0 ticks keys randoms w₀) i (Err r) m t mem pic his
     stopped r m t mem pic his g =
-        let some = ne_eqb entry.refusal 0 (λ z. refused_some r (g.says ∙ z)) in
+        let some = ne_eqb entry.refusal 0 (λ z. some_number r (g.says ∙ z)) in
         let last = rw some at opened in
-        rw (← last) (record { accepted = refl; rest = g })
+        rw (← last) (record { accepted = refl; rest = gives_as (Err r) refl g })
 
-    pub stopped_totals : (r : Refusal) (m : Machine) (t : Trail) (mem pic his : List ℕ) → Gives entry (Refused r) m t mem pic his
+    pub stopped_totals : {A : Type 0} (r : Refusal) (m : Machine) (t : Trail) (mem pic his : List ℕ) → Gives {A = A} entry (Err r) m t mem pic his
         → Totals ticks keys randoms w₀ dark copied
     stopped_totals r m t mem pic his g =
-        let some : entry.refusal ≡ 0 → ⊥ = λ z. refused_some r (g.says ∙ z) in (
+        let some : entry.refusal ≡ 0 → ⊥ = λ z. some_number r (g.says ∙ z) in (
           sum_stopped step_dark 120 ticks keys randoms w₀ w i dark h.spots h.lists more some,
           sum_stopped step_copied 256 ticks keys randoms w₀ w i copied h.bytes h.lists more some,
         )
 
 -- ---- the call
 
-pub run_refused : (ticks keys randoms : List ℕ) (w : World) (r : Refusal) → number (Refused r) ≡ tests w (lists_fit ticks keys randoms)
-    → GivesRun (run ticks keys randoms w) 0 (Refused r) w.machine w.trail w.memory w.picture w.history
+pub run_refused : (ticks keys randoms : List ℕ) (w : World) (r : Refusal) → number_of r ≡ tests w (lists_fit ticks keys randoms)
+    → GivesRun {A = ⊤} (run ticks keys randoms w) 0 (Err r) w.machine w.trail w.memory w.picture w.history
 unfolding run run_refusal
 run_refused ticks keys randoms w r e =
     let refusal = run_refusal ticks keys randoms w in
-    rw (ne_eqb refusal 0 (λ z. refused_some r (e ∙ z)))
-    (record { accepted = refl; rest = handed refusal w (Refused r) e })
+    rw (ne_eqb refusal 0 (λ z. some_number r (e ∙ z)))
+    (record { accepted = refl; rest = handed refusal w (Err r) e })
 
 -- a number that it answers
 module _ (each : World → ℕ) (ticks keys randoms : List ℕ) (w : World) where
-  pub run_refused_totals : (r : Refusal) → number (Refused r) ≡ tests w (lists_fit ticks keys randoms) → total each ticks keys randoms w ≡ 0
+  pub run_refused_totals : (r : Refusal) → number_of r ≡ tests w (lists_fit ticks keys randoms) → total each ticks keys randoms w ≡ 0
   unfolding total run_refusal
-  run_refused_totals r e = rw (ne_eqb (run_refusal ticks keys randoms w) 0 (λ z. refused_some r (e ∙ z)))
+  run_refused_totals r e = rw (ne_eqb (run_refusal ticks keys randoms w) 0 (λ z. some_number r (e ∙ z)))
 
   pub run_admitted_totals : tests w (lists_fit ticks keys randoms) ≡ 0 → total each ticks keys randoms w ≡ total_from each ticks keys randoms w
   unfolding total run_refusal

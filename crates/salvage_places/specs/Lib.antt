@@ -2,3 +2,4 @@
 pub mod Places
 pub mod Cleared
 pub mod Listed
+pub mod Numbered

@@ -9,6 +9,7 @@ ghost use Rattle.salvage_places.specs.Places as rule;
 ghost use Rattle.salvage_places.specs.Cleared.{without};
 ghost use Rattle.salvage_places.specs.Cleared as clearing;
 ghost use Rattle.salvage_places.specs.Listed.{entries, laid, entered};
+ghost use Rattle.salvage_places.specs.Numbered.{number};
 
 use rules::Trail;
 
@@ -46,18 +47,38 @@ fn in_row(places: usize, next: usize, row: usize, p: usize) -> bool
     behind(places, next, p) < row
 }
 
-// 0, 1 or 2 as a place counts as kept, ahead or free.
-fn standing(places: usize, t: Trail, p: usize) -> u16
+// As what a place counts.
+#[derive(Clone, Copy)]
+enum Standing {
+    Kept,
+    Ahead,
+    Free,
+}
+
+// Its number, in the list.
+impl From<Standing> for u16 {
+    ghost from_gives = { λ standing n. n ≡ number standing };
+
+    fn from(standing: Standing) -> u16 {
+        match standing {
+            Standing::Kept => 0,
+            Standing::Ahead => 1,
+            Standing::Free => 2,
+        }
+    }
+}
+
+fn standing_of(places: usize, t: Trail, p: usize) -> Standing
     requires { (t.next < places) × (p < places) × (places ≤ 224) }
-    ensures { result ≡ rule.standing places t p }
+    ensures { number result ≡ rule.standing places t p }
 {
     if in_row(places, t.next, t.kept, p) {
-        return 0;
+        return Standing::Kept;
     }
     if beyond(places, t.next, p) < t.ahead {
-        return 1;
+        return Standing::Ahead;
     }
-    2
+    Standing::Free
 }
 
 // ---- the clearing
@@ -68,7 +89,7 @@ fn clear_place(history: &mut [u8], p: usize)
     ensures { history.new ≡ without history.old p }
 {
     let at = keeping::PLACE * p;
-    memory::clear(&mut history[at..at + keeping::PLACE], 0);
+    history[at..at + keeping::PLACE].fill(0);
 }
 
 // Clears a place that does not hold one of the `row` newest records.
@@ -90,10 +111,8 @@ pub fn clear_others(history: &mut [u8], next: usize, row: usize)
         clearing.cleared (rule.others (fit.places history.old) next row) history.old }
 {
     let places = fitting::places(history);
-    let mut p = 0;
-    while p < places {
+    for p in 0..places {
         clear_other(history, places, next, row, p);
-        p += 1;
     }
 }
 
@@ -109,9 +128,9 @@ fn enter(list: &mut [u16], places: usize, t: Trail, row: usize, p: usize, count:
     if in_row(places, t.next, row, p) {
         return count;
     }
-    let kind = standing(places, t, p);
+    let standing = standing_of(places, t, p);
     list[2 * count] = p as u16;
-    list[2 * count + 1] = kind;
+    list[2 * count + 1] = u16::from(standing);
     count + 1
 }
 
@@ -122,10 +141,8 @@ pub fn list_others(list: &mut [u16], places: usize, t: Trail, row: usize) -> usi
     ensures list_after { list.new ≡ laid (entries places t (rule.others places t.next row)) list.old }
 {
     let mut count = 0;
-    let mut p = 0;
-    while p < places {
+    for p in 0..places {
         count = enter(list, places, t, row, p, count);
-        p += 1;
     }
     count
 }

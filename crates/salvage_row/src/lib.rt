@@ -14,17 +14,14 @@ pub fn row_length(history: &[u8], end: u16, kept: usize, next: usize, depth: u8)
     let places = fitting::places(history);
     let mut n = next;
     let mut d = depth;
-    let mut k = 0;
-    while k < kept {
+    for k in 0..kept {
         let p = trail::place_before(n, places);
-        let at = keeping::PLACE * p;
-        let place = &history[at..at + keeping::PLACE];
+        let place = keeping::place(history, p);
         if damage::is_damaged(place, end, d) {
             return k;
         }
         d = damage::depth_at(place);
         n = p;
-        k += 1;
     }
-    k
+    kept
 }

@@ -6,8 +6,7 @@
 
 mod blocks;
 
-use parts::Ran;
-use rules::{Edition, Machine};
+use rules::{Edition, Machine, Refusal};
 use std::env::Env;
 use std::io;
 use stepper::Switch;
@@ -19,40 +18,37 @@ fn edition(rt: &impl Env) -> Edition {
     Edition::Second
 }
 
-// A program loaded and run. A refused load is a run of no step.
-fn run(edition: Edition, end: u16, program: &[u8], rows: &mut [u64]) -> Ran {
+// What came of a program that is loaded and run, and the machine after it. A refused load is a run of no step.
+fn run(
+    edition: Edition,
+    end: u16,
+    program: &[u8],
+    rows: &mut [u64],
+) -> (Result<(), Refusal>, Machine) {
     let mut memory = [0u8; Machine::MEMORY];
     let mut history = [0u8; history::PLACE];
-    let start = chip8::load(edition, end, program, &mut memory, rows, &mut history);
-    let outcome = start.outcome;
-    let machine = start.machine;
-    let trail = start.trail;
-    if parts::number(outcome) != 0 {
-        return Ran {
-            accepted: 0,
-            dark: 0,
-            copied: 0,
-            outcome,
-            machine,
-            trail,
-        };
+    let mut start = chip8::load(edition, end, program, &mut memory, rows, &mut history);
+    if start.outcome.is_err() {
+        return (start.outcome, start.machine);
     }
-    chip8::run(
-        machine,
-        trail,
+    let ran = chip8::run(
+        &mut start.machine,
+        &mut start.trail,
         &mut memory,
         rows,
         &mut history,
         &[0u8; 64],
         &[0u16; 64],
         &[0u8; 64],
-    )
+    );
+    (ran.outcome, start.machine)
 }
 
 // The dots of the glass, of whichever the switch names.
 fn glass_of<'a>(switch: Switch, picture: &'a [u8], page: &'a [u8]) -> [u8; 1024] {
     let mut glass = [0u8; 1024];
-    panel::panel(stepper::show(switch, picture, page), &mut glass);
+    // Both lengths fit, so it is filled.
+    let _ = panel::panel(stepper::show(switch, picture, page), &mut glass);
     glass
 }
 
@@ -60,25 +56,22 @@ fn main(rt: HostRuntime) -> io::Result<()> {
     let mut input = [0u8; Machine::TOO_LONG];
     let size = reading::read_full(&mut rt.stdin(), &mut input)?;
     let mut rows = [0u64; Machine::ROWS];
-    let ran = run(
+    let (outcome, machine) = run(
         edition(&rt),
         options::end_of_memory(&rt),
         &input[..size],
         &mut rows,
     );
     let mut picture = [0u8; Machine::PICTURE];
-    chip8::to_bytes(&rows, &mut picture);
+    // Both lengths fit, so they are turned.
+    let _ = chip8::to_bytes(&rows, &mut picture);
     let mut page = [0u8; Machine::PICTURE];
-    let machine = ran.machine;
-    stepper::draw(machine, &mut page);
+    // The length fits, and a state that the library hands back is sound, so the page is drawn.
+    let _ = stepper::draw(machine, &mut page);
     let game = glass_of(Switch::Game, &picture, &page);
     let variables = glass_of(Switch::Variables, &picture, &page);
-    blocks::write(
-        &rt,
-        &game,
-        &variables,
-        options::has_option(&rt, b"--variables"),
-    )?;
+    let beside = options::has_option(&rt, b"--variables").then_some(&variables);
+    blocks::write(&rt, &game, beside)?;
     blocks::write_lit(&rt, machine.lit)?;
-    blocks::write_stop(&rt, ran)
+    blocks::write_stop(&rt, outcome, machine.pc)
 }

@@ -11,10 +11,7 @@ use rules::{Machine, Wait};
 fn held_sound(wait: Wait) -> bool
     ensures { result ≡ state.held_sound wait }
 {
-    match wait {
-        Wait::Idle => true,
-        Wait::Held(k) => k <= 15,
-    }
+    matches!(wait, Wait::Idle | Wait::Held(0..=15))
 }
 
 // One of the two ends in use.
@@ -39,14 +36,7 @@ fn clear_from(stack: [u16; Machine::STACK], at: usize) -> bool
     requires { at ≤ 12 }
     ensures { result ≡ state.zeros (drop at stack) }
 {
-    let mut k = at;
-    while k < Machine::STACK {
-        if stack[k] != 0 {
-            return false;
-        }
-        k += 1;
-    }
-    true
+    stack[at..].iter().all(|entry| *entry == 0)
 }
 
 // It also tells what the types say of the state's numbers.
@@ -54,14 +44,12 @@ pub fn is_sound(m: Machine) -> bool
     ensures value { result ≡ state.sound m }
     ensures typed_machine { TypedMachine m }
 {
-    let depth = m.depth as usize;
+    let depth = usize::from(m.depth);
     if Machine::STACK < depth {
         return false;
     }
-    let stack = m.stack;
-    let wait = m.wait;
-    clear_from(stack, depth)
-        & held_sound(wait)
+    clear_from(m.stack, depth)
+        & held_sound(m.wait)
         & (m.lit as usize <= Machine::SPOTS)
         & end_sound(m.end)
 }

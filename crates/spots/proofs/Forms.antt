@@ -4,13 +4,13 @@ use mathlib.Core.List.{List}
 use Prim.Native.Nat.{ℕ, zero, suc, ◌+◌, ◌-◌, ◌*◌, ◌/◌, ◌%◌, ◌<◌, min}
 use native.Mathlib.Nat.{zero-add, add-zero, not-suc-le-zero}
 use native.Mathlib.Omega.{arith}
-use lib.ListN.{get_or, length, replicate}
+use lib.ListN.{get_or, length, replicate, length-replicate, get_or-replicate}
 use lib.Seq.{ext_get_or}
 use lib.Bits.{differ}
 use Rattle.rules.specs.Number.{bit}
 use Rattle.rules.specs.Picture.{spot, shown, bytes_from, drawn, sum_from, darkened, lit_spots}
 use Rattle.rules.proofs.Good.{Bytes}
-use Rattle.rules.proofs.Parts.{below_get, below_of}
+use Rattle.rules.proofs.Parts.{below_get, below_of, below_zeros}
 use Rattle.rules.proofs.Counted.{lit_sum}
 use Rattle.rules.proofs.Drawn.{bit_lit, digit, eight, mask, byte, bytes_at, bytes_length}
 use Rattle.rules.proofs.Spots.{drawn_spot, bytes_same, sum_same, whole}
@@ -70,6 +70,12 @@ byte_small f h k =
 pub picture_dark : (spots : List ℕ) → ((k : ℕ) → k < 2048 → get_or spots k 0 ≡ 0) → picture_of spots ≡ replicate 256 0
 unfolding picture_of
 picture_dark spots dark = bytes_same (spot_at spots) (λ x y. 0) (λ x y hx hy. dark _ (omega arith)) 256 0 (omega arith)
+
+pub dark_spots : (n : ℕ) → n ≡ 2048 → (picture_of (replicate n 0) ≡ replicate 256 0) × AreSpots (replicate n 0)
+dark_spots n e = (
+  picture_dark (replicate n 0) (λ k h. get_or-replicate n k 0 0 (omega arith)),
+  record { size = length-replicate n 0 ∙ e; each = below_zeros n (omega arith) },
+)
 
 pub picture_bytes : (spots : List ℕ) → AreSpots spots → Bytes 256 (picture_of spots)
 unfolding picture_of

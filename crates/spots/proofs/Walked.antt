@@ -1,17 +1,19 @@
 -- What is found and done spot by spot: a tally of the spots passed, and spots that are written one after the other.
 use mathlib.Core.Path.{◌≡◌, refl, sym, ap, ◌∙◌}
-use mathlib.Core.Bool.{true, false, and-eq-true_iff}
+use mathlib.Core.Bool.{true, ◌&&◌, and-eq-true_iff}
 use mathlib.Core.List.{List, [], ◌∷◌}
-use Prim.Native.Nat.{ℕ, ◌+◌, ◌*◌, ◌/◌, ◌%◌, ◌<◌, ◌≤◌, min}
+use Prim.Native.Nat.{ℕ, zero, suc, ◌+◌, ◌*◌, ◌/◌, ◌%◌, ◌<◌, ◌≤◌, min}
 use native.Mathlib.Nat.{zero-add}
 use native.Mathlib.Numerals.{add-one}
 use native.Mathlib.Decide.{ℕ_discrete}
 use native.Mathlib.Omega.{arith}
-use lib.ListN.{get_or, length, set, drop, length-set, drop_of_length-le}
-use lib.Seq.{get_or-set_same, get_or-set_other, drop-cons}
+use lib.ListN.{get_or, length, set, take, length-set}
+use lib.Seq.{get_or-set_same, get_or-set_other, take-length}
 use lib.Bits.{differ}
 use lib.Dec.{leb}
-use borrow.Author.Tests.{le-leb, lt-leb, leb-true}
+use borrow.Author.Tests.{le-leb, leb-true}
+use Rattle.std.specs.List.{list_all, sum_by}
+use Rattle.std.proofs.lemmas.List.Sums.{sum_by_more}
 use Rattle.rules.specs.Picture.{shown, sum_from}
 use Rattle.rules.specs.Typed.{Below, none, more}
 use Rattle.rules.proofs.Parts.{below_set}
@@ -47,6 +49,20 @@ module _ {f : ℕ → ℕ → ℕ} where
   -- how many they are is a variable, since a sum of 2,048 would be written out
   pub tally_all : (all : ℕ) → all ≡ 2048 → (s count : ℕ) → Tally f s count → all ≤ s → count ≡ sum_from f all 0
   tally_all all is s count t h = let e : s ≡ all = omega (arith, t.inside) in t.is ∙ ap (λ (n : ℕ). sum_from f n 0) e
+
+-- the sum of a list of spots, one after the other
+module _ (spots : List ℕ) (small : (k : ℕ) → get_or spots k 0 < 2) where
+  tally_taken : (s : ℕ) → s ≤ length spots → length spots ≤ 2048 → Tally (spot_at spots) s (sum_by (λ n. n) (take s spots))
+  tally_taken zero h few = tally_none
+  tally_taken (suc s) h few =
+      rw (← add-one s, sum_by_more (λ n. n) spots s 0 (omega arith))
+      (tally_more s _ _ (tally_taken s (omega arith) few) (omega arith) (sym (spot_here spots s)) (small s))
+
+  pub tally_whole : (all : ℕ) → all ≡ 2048 → length spots ≡ all → (sum_by (λ n. n) spots ≡ sum_from (spot_at spots) all 0) × (sum_by (λ n. n) spots ≤ 2048)
+  tally_whole all is size =
+      let whole : take all spots ≡ spots = rw size at (take-length spots) in
+      let t = rw whole at (tally_taken all (omega arith) (omega arith)) in
+      (t.is, tally_few all _ t)
 
 -- ---- spots written one after the other
 
@@ -114,14 +130,9 @@ module _ (spots : List ℕ) (a : AreSpots spots) (s h r : ℕ) (few : h < 2) (is
 
 -- ---- the test of all of them
 
-pub spots_stop : (l : List ℕ) (k : ℕ) → k < length l → 1 < get_or l k 0 → all_spots (drop k l) ≡ false
-spots_stop l k h b = rw (drop-cons l k 0 h, lt-leb (get_or l k 0) 1 b)
-
-pub spots_end : (l : List ℕ) (k : ℕ) → length l ≤ k → all_spots (drop k l) ≡ true
-spots_end l k h = rw (drop_of_length-le l {i = k} h)
-
-pub spots_on : (l : List ℕ) (k : ℕ) → k < length l → get_or l k 0 ≤ 1 → all_spots (drop k l) ≡ all_spots (drop (k + 1) l)
-spots_on l k h b = rw (add-one, drop-cons l k 0 h, le-leb (get_or l k 0) 1 b)
+pub all_are : (l : List ℕ) → list_all (λ s. leb s 1) l ≡ all_spots l
+all_are [] = refl
+all_are (x ∷ l) = ap (λ b. leb x 1 && b) (all_are l)
 
 -- where all passed, each is below 2
 pub all_below : (l : List ℕ) → all_spots l ≡ true → Below 2 l

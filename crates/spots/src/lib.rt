@@ -1,5 +1,6 @@
 // The picture as the plain engine has it: 2,048 spots, one byte for each, 0 dark and 1 lit. Spot 0 is the upper left corner, spot 63 ends the
 // top row, spot 64 begins the row beneath it: the spot in column x of row y has the number 64 * y + x. Everything here is done spot by spot.
+// That they are 2,048 and each 0 or 1 is asked of the bytes (`AreSpots`) and is no type's: they are C's, lent for the length of a call.
 #![tactic(auto)]
 
 ghost use Rattle.std.specs.Prelude.{◌≡◌, ◌+◌, ◌/◌, ◌%◌, ◌≤◌, ◌<◌, min, replicate};
@@ -14,14 +15,7 @@ use rules::Machine;
 pub fn are_spots(spots: &[u8]) -> bool
     ensures { result ≡ all_spots spots.now }
 {
-    let mut s = 0;
-    while s < spots.len() {
-        if 1 < spots[s] {
-            return false;
-        }
-        s += 1;
-    }
-    true
+    spots.iter().all(|s| *s <= 1)
 }
 
 // ---- one spot
@@ -79,13 +73,7 @@ pub fn lit(spots: &[u8]) -> usize
     requires { AreSpots spots.now }
     ensures { (result ≡ rule.lit_spots (picture_of spots.now)) × (result ≤ spot_count) }
 {
-    let mut count = 0;
-    let mut s = 0;
-    while s < Machine::SPOTS {
-        count += spots[s] as usize;
-        s += 1;
-    }
-    count
+    spots.iter().map(|s| usize::from(*s)).sum()
 }
 
 // How many would be lit after a drawing. Nothing is drawn yet.
@@ -95,10 +83,8 @@ pub fn lit_after(spots: &[u8], pattern: &[u8], column: usize, row: usize) -> usi
         × (result ≤ spot_count) }
 {
     let mut count = 0;
-    let mut s = 0;
-    while s < Machine::SPOTS {
-        count += turned(spots, pattern, column, row, s) as usize;
-        s += 1;
+    for s in 0..Machine::SPOTS {
+        count += usize::from(turned(spots, pattern, column, row, s));
     }
     count
 }
@@ -109,10 +95,8 @@ pub fn darkened(spots: &[u8], pattern: &[u8], column: usize, row: usize) -> usiz
     ensures { result ≡ rule.darkened pattern.now column row (picture_of spots.now) }
 {
     let mut count = 0;
-    let mut s = 0;
-    while s < Machine::SPOTS {
-        count += met(spots, pattern, column, row, s) as usize;
-        s += 1;
+    for s in 0..Machine::SPOTS {
+        count += usize::from(met(spots, pattern, column, row, s));
     }
     count
 }
@@ -123,10 +107,8 @@ pub fn draw(spots: &mut [u8], pattern: &[u8], column: usize, row: usize)
     ensures { (picture_of spots.new ≡ rule.drawn pattern.now column row (picture_of spots.old))
         × AreSpots spots.new }
 {
-    let mut s = 0;
-    while s < Machine::SPOTS {
+    for s in 0..Machine::SPOTS {
         spots[s] = turned(spots, pattern, column, row, s);
-        s += 1;
     }
 }
 
@@ -135,9 +117,5 @@ pub fn erase(spots: &mut [u8])
     requires { AreSpots spots.old }
     ensures { (picture_of spots.new ≡ replicate picture_size 0) × AreSpots spots.new }
 {
-    let mut s = 0;
-    while s < Machine::SPOTS {
-        spots[s] = 0;
-        s += 1;
-    }
+    spots.fill(0);
 }

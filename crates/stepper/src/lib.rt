@@ -5,22 +5,22 @@ ghost use Rattle.std.specs.Prelude.{◌≡◌};
 ghost use Rattle.rules.specs.Refusal.{number};
 ghost use Rattle.stepper.specs.Dock as dock;
 
-use rules::{Machine, Outcome, Refusal};
+use rules::{Machine, Refusal};
 
 // ---- the page
 
 // Draws the page of a state.
-pub fn draw(machine: Machine, page: &mut [u8]) -> Outcome
+pub fn draw(machine: Machine, page: &mut [u8]) -> Result<(), Refusal>
     ensures { dock.Draws machine page.old result page.new }
 {
-    let fits = page.len() == Machine::PICTURE;
-    let outcome = chip8::tested(fits, chip8::is_sound(machine));
-    let Outcome::Done = outcome else {
-        return outcome;
+    let Some(page) = page.as_mut_array() else {
+        return Err(Refusal::BufferLength);
     };
-    let v = machine.v;
-    page_spots::fill(&v, machine.pc, page);
-    outcome
+    if !chip8::is_sound(machine) {
+        return Err(Refusal::Unsound);
+    }
+    page_spots::fill(&machine.v, machine.pc, page);
+    Ok(())
 }
 
 // ---- the showing
@@ -33,16 +33,16 @@ pub enum Switch {
 }
 
 // Whether a showing is refused.
-pub fn shows(picture: &[u8], page: &[u8]) -> Outcome
+pub fn shows(picture: &[u8], page: &[u8]) -> Result<(), Refusal>
     ensures { number result ≡ dock.show_refusal picture.now page.now }
 {
     if picture.len() != Machine::PICTURE {
-        return Outcome::Refused(Refusal::BufferLength);
+        return Err(Refusal::BufferLength);
     }
     if page.len() != Machine::PICTURE {
-        return Outcome::Refused(Refusal::BufferLength);
+        return Err(Refusal::BufferLength);
     }
-    Outcome::Done
+    Ok(())
 }
 
 // The game's own picture or the page of variables, whichever the switch names. A refused showing hands back the empty part at the start of
@@ -50,9 +50,9 @@ pub fn shows(picture: &[u8], page: &[u8]) -> Outcome
 pub fn show<'a>(switch: Switch, picture: &'a [u8], page: &'a [u8]) -> &'a [u8]
     ensures { dock.Shown switch picture.entry page.entry result }
 {
-    let Outcome::Done = shows(picture, page) else {
+    if shows(picture, page).is_err() {
         return &picture[0..0];
-    };
+    }
     match switch {
         Switch::Game => picture,
         Switch::Variables => page,

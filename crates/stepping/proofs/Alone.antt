@@ -1,5 +1,5 @@
 -- A run of one entry without a tick is its step: where it is accepted nothing is left to be done, and where it is refused the run ends.
-use mathlib.Core.Path.{◌≡◌, refl, sym}
+use mathlib.Core.Path.{◌≡◌, refl, sym, ◌∙◌}
 use mathlib.Core.Bool.{true}
 use mathlib.Core.List.{List, [], ◌∷◌}
 use Prim.Native.Nat.{ℕ, ◌+◌, ◌≤◌}
@@ -8,7 +8,8 @@ use lib.Dec.{eqb}
 use borrow.Author.Tests.{ne_eqb}
 use Rattle.rules.specs.declared.Machine.{Machine}
 use Rattle.rules.specs.declared.Trail.{Trail}
-use Rattle.rules.specs.declared.Outcome.{Outcome}
+use Rattle.std.specs.Prelude.{Result, Err}
+use Rattle.rules.specs.declared.Refusal.{Refusal}
 use Rattle.rules.specs.Number.{pick}
 use Rattle.rules.specs.World.{World, Answer, buffers_fit, soundly}
 use Rattle.rules.specs.Call.{step, step_refusal}
@@ -16,7 +17,7 @@ use Rattle.rules.specs.Run.{Ran, run_from, run, run_refusal, total_from, total}
 use Rattle.rules.specs.Dark.{step_dark, run_dark}
 use Rattle.rules.specs.Promise.{Gives}
 use Rattle.rules.proofs.Choices.{by_test}
-use Rattle.rules.proofs.Given.{tests, settled}
+use Rattle.rules.proofs.Given.{tests, settled, some_number, answer_number}
 
 module _ (keys random : ℕ) (w : World) where
   -- the step is refused by the first two tests, as the run is
@@ -46,7 +47,7 @@ module _ (keys random : ℕ) (w : World) where
       by_test (λ (r : Ran). r.answer ≡ step keys random w) (tests w true) 0 (λ z. entry_answer)
       (λ ne. rw (same_refusal ne, ne_eqb (tests w true) 0 ne))
 
-  pub alone_gives : (o : Outcome) (m : Machine) (t : Trail) (mem pic his : List ℕ)
+  pub alone_gives : {A : Type 0} (o : Result A Refusal) (m : Machine) (t : Trail) (mem pic his : List ℕ)
       → Gives (run (0 ∷ []) (keys ∷ []) (random ∷ []) w).answer o m t mem pic his → Gives (step keys random w) o m t mem pic his
   alone_gives o m t mem pic his g = rw alone at g
 
@@ -55,6 +56,12 @@ module _ (keys random : ℕ) (w : World) where
   alone_dark =
       by_test (λ (n : ℕ). n ≡ step_dark w) (tests w true) 0 (λ z. entry_dark)
       (λ ne. rw (same_refusal ne, ne_eqb (tests w true) 0 ne))
+
+  -- a refused one darkens nothing
+  pub refused_dark : {A : Type 0} (r : Refusal) (m : Machine) (t : Trail) (mem pic his : List ℕ) → Gives {A = A} (step keys random w) (Err r) m t mem pic his → step_dark w ≡ 0
+  unfolding step step_dark
+  refused_dark r m t mem pic his g =
+      rw (ne_eqb (step_refusal w) 0 (λ z. some_number r (g.says ∙ answer_number (step_refusal w) _ w ∙ z)))
 
   pub alone_few : (run (0 ∷ []) (keys ∷ []) (random ∷ []) w).accepted ≤ 1
   unfolding run run_refusal

@@ -10,10 +10,9 @@ use borrow.Author.Tests.{ltb-true, leb-true}
 use Rattle.rules.specs.declared.Machine.{Machine}
 use Rattle.rules.specs.declared.Trail.{Trail}
 use Rattle.rules.specs.declared.Refusal.{Refusal}
-use Rattle.rules.specs.declared.Outcome.{Outcome}
-use Rattle.rules.specs.declared.Outcome.TheVariants.{Done, Refused}
+use Rattle.std.specs.Prelude.{Result, Ok, Err, ⊤}
 use Rattle.rules.specs.Number.{unless}
-use Rattle.rules.specs.Refusal.{number}
+use Rattle.rules.specs.Refusal.{number, number_of}
 use Rattle.rules.specs.State.{sound}
 use Rattle.rules.specs.World.{World, world, places, history_fits, trail_fits, soundly}
 use Rattle.rules.specs.Call.{tick, ticked, tick_refusal}
@@ -22,17 +21,17 @@ use Rattle.rules.proofs.Sound.{sound_parts}
 use Rattle.rules.proofs.Given.{Back, given_refused, answered_done, both_passed}
 use Rattle.ticking.specs.Tickable.{Tickable}
 
-pub tick_refused : (w : World) (r : Refusal) → number (Refused r) ≡ unless (history_fits w.history) 9 (unless (soundly w) 10 0)
-    → Back (tick w) (Refused r) w
+pub tick_refused : (w : World) (r : Refusal) → number_of r ≡ unless (history_fits w.history) 9 (unless (soundly w) 10 0)
+    → Back {A = ⊤} (tick w) (Err r) w
 unfolding tick tick_refusal
 tick_refused w r e = given_refused (tick_refusal w) (ticked w) w r e
 
 -- ---- a tick that passes
 
-module _ (m : Machine) (t : Trail) (his : List ℕ) (o : Outcome)
-    (e : number o ≡ unless (history_fits his) 9 (unless (sound m && trail_fits t his) 10 0)) (d : o ≡ Done) where
+module _ {A : Type 0} (m : Machine) (t : Trail) (his : List ℕ) (o : Result A Refusal) (x : A)
+    (e : number o ≡ unless (history_fits his) 9 (unless (sound m && trail_fits t his) 10 0)) (d : o ≡ Ok x) where
   tick_passed : (history_fits his ≡ true) × ((sound m && trail_fits t his) ≡ true)
-  tick_passed = both_passed (history_fits his) (sound m && trail_fits t his) o e d
+  tick_passed = both_passed (history_fits his) (sound m && trail_fits t his) o x e d
 
   pub tick_tickable : Tickable m t his
   tick_tickable =

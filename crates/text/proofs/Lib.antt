@@ -1,3 +1,2 @@
--- The laws that whoever puts one text behind another cites.
-pub mod Joined
+-- What std writes of a number, in the words of the promises.
 pub mod Decimal

@@ -1,4 +1,2 @@
--- What the promises of `text` cite: numbers as text, and what is true of a buffer after bytes were put into it.
+-- What the promises of `text` cite: numbers as text.
 pub mod Text
-pub mod Digits
-pub mod Put

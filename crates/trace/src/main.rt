@@ -18,12 +18,6 @@ fn edition(rt: &impl Env) -> Edition {
 fn main(rt: HostRuntime) -> io::Result<()> {
     let mut input = [0u8; Machine::TOO_LONG];
     let size = reading::read_full(&mut rt.stdin(), &mut input)?;
-    let mut out = [0u8; 2048];
-    let end = steps::put_trace(
-        &mut out,
-        edition(&rt),
-        options::end_of_memory(&rt),
-        &input[..size],
-    );
-    rt.write_all(&out[..end])
+    let trace = steps::trace_of(edition(&rt), options::end_of_memory(&rt), &input[..size]);
+    rt.print(trace)
 }

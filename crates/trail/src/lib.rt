@@ -21,7 +21,7 @@ fn one_more(kept: usize, places: usize) -> usize
     requires { (kept ≤ places) × (places ≤ 224) }
     ensures { result ≡ pick (eqb kept places) places (kept + 1) }
 {
-    if kept == places { places } else { kept + 1 }
+    (kept + 1).min(places)
 }
 
 // After a new action: nothing stands ahead any more.

@@ -49,50 +49,46 @@ pub fn rows_change(n: u8, row: u8) -> Change
     if n == 0 {
         return Change::Nothing;
     }
-    let below = 32 - row;
-    if n < below {
-        return Change::InPicture(8 * (row as u16), 8 * (n as u16));
-    }
-    Change::InPicture(8 * (row as u16), 8 * (below as u16))
+    Change::InPicture(8 * u16::from(row), 8 * u16::from(n.min(32 - row)))
 }
 
 // What the instruction is about to change besides the state.
+#[tactic(auto, unfolding(rules::specs::Step::change_of))]
 pub fn change_of(op: Op, c: Core, v: &[u8; 16]) -> Change
     ensures { (stack : List ℕ) → result ≡ change_of op (whole c v.now stack) }
 {
     match op {
-        Op::Plain(_) => Change::Nothing,
-        Op::AwaitKey(_) => Change::Nothing,
-        Op::Call(_) => Change::Nothing,
-        Op::Return => Change::Nothing,
         Op::Clear => Change::InPicture(0, Machine::PICTURE as u16),
         Op::Draw(_, y, n) => rows_change(n, row_of(v, y)),
         Op::Decimal(_) => Change::InMemory(c.i, 3),
         Op::Store(x) => Change::InMemory(c.i, registers::up_to(x) as u16),
-        Op::Fetch(_) => Change::Nothing,
-        Op::Unlisted => Change::Nothing,
-        Op::MachineCode => Change::Nothing,
+        Op::Plain(_)
+        | Op::AwaitKey(_)
+        | Op::Call(_)
+        | Op::Return
+        | Op::Fetch(_)
+        | Op::Unlisted
+        | Op::MachineCode => Change::Nothing,
     }
 }
 
 // ---- the instructions that read or change memory or the picture
 
 // DXYN: the part of memory that holds the pattern. DXY0 has none, whatever I is.
-pub fn pattern(i: u16, n: u8, memory: &[u8]) -> &[u8]
-    requires { (pick (eqb n 0) 0 (i + n) ≤ memory_size) × (length memory.now ≡ memory_size) }
+pub fn pattern(i: u16, n: u8, memory: &[u8; Machine::MEMORY]) -> &[u8]
+    requires { pick (eqb n 0) 0 (i + n) ≤ memory_size }
     ensures { result.now ≡ part memory.now i n }
 {
-    let at = i as usize;
-    let count = n as usize;
-    if count == 0 {
-        return &memory[0..0];
+    if n == 0 {
+        return &[];
     }
-    &memory[at..at + count]
+    let at = usize::from(i);
+    &memory[at..at + usize::from(n)]
 }
 
 // 00E0, which makes so many lit spots dark.
-pub fn clear(c: Core, rows: &mut [u64], dark: usize) -> Core
-    requires { (c.pc ≤ 4094) × (length rows.old ≡ 32) × (lit_refusal c.lit (bytes_of rows.old) (replicate picture_size 0) ≡ 0)
+pub fn clear(c: Core, rows: &mut [u64; Machine::ROWS], dark: usize) -> Core
+    requires { (c.pc ≤ 4094) × (lit_refusal c.lit (bytes_of rows.old) (replicate picture_size 0) ≡ 0)
         × (dark ≤ spot_count) × Balance (record { dark = dark; lit = 0 }) (bytes_of rows.old) (replicate picture_size 0) }
     ensures rows_after { bytes_of rows.new ≡ replicate picture_size 0 }
     ensures by_index { (v stack : List ℕ) → whole result v stack ≡ with_lit (lit_after c.lit (bytes_of rows.old) (replicate picture_size 0))
@@ -110,11 +106,11 @@ pub fn draw(
     column: usize,
     row: usize,
     pattern: &[u8],
-    rows: &mut [u64],
+    rows: &mut [u64; Machine::ROWS],
     place: &mut [u8],
     at: usize,
 ) -> Acted
-    requires { (c.pc ≤ 4094) × (column < 64) × (row < 32) × (length rows.old ≡ 32) × (length pattern.now ≤ 16)
+    requires { (c.pc ≤ 4094) × (column < 64) × (row < 32) × (length pattern.now ≤ 16)
         × (lit_refusal c.lit (bytes_of rows.old) (drawn pattern.now column row (bytes_of rows.old)) ≡ 0)
         × (at + 128 ≤ length place.old) }
     ensures rows_after { bytes_of rows.new ≡ drawn pattern.now column row (bytes_of rows.old) }
@@ -133,7 +129,7 @@ pub fn draw(
     let spots = drawing::draw(rows, place, at, pattern, column, row);
     let lit = lit::counted(c.lit, spots);
     let dark = spots.dark;
-    let flagged = registers::put(c, v, 0xF, registers::flag(0 < dark));
+    let flagged = registers::put(c, v, 0xF, u8::from(0 < dark));
     Acted {
         core: registers::light(registers::idle(flagged), lit),
         dark,
@@ -141,7 +137,7 @@ pub fn draw(
 }
 
 // FX33
-pub fn decimal(c: Core, v: &[u8; 16], x: u8, memory: &mut [u8]) -> Core
+pub fn decimal(c: Core, v: &[u8; 16], x: u8, memory: &mut [u8; Machine::MEMORY]) -> Core
     requires { Within 3 c memory.old }
     ensures memory_after { memory.new ≡ over memory.old c.i (digits_of (get_or v.now (x % 16) 0)) 3 }
     ensures by_index { (w stack : List ℕ) → whole result w stack ≡ with_wait Idle (onward (whole c w stack)) }
@@ -151,7 +147,7 @@ pub fn decimal(c: Core, v: &[u8; 16], x: u8, memory: &mut [u8]) -> Core
 }
 
 // FX55
-pub fn store(c: Core, v: &[u8; 16], x: u8, memory: &mut [u8]) -> Core
+pub fn store(c: Core, v: &[u8; 16], x: u8, memory: &mut [u8; Machine::MEMORY]) -> Core
     requires { Within (up_to x) c memory.old }
     ensures memory_after { memory.new ≡ over memory.old c.i (take (up_to x) v.now) (up_to x) }
     ensures by_index { (w stack : List ℕ) → whole result w stack ≡ with_wait Idle (onward (with_i (c.i + up_to x) (whole c w stack))) }
@@ -162,7 +158,7 @@ pub fn store(c: Core, v: &[u8; 16], x: u8, memory: &mut [u8]) -> Core
 }
 
 // FX65
-pub fn fetch(c: Core, v: &mut [u8; 16], x: u8, memory: &[u8]) -> Core
+pub fn fetch(c: Core, v: &mut [u8; 16], x: u8, memory: &[u8; Machine::MEMORY]) -> Core
     requires { Within (up_to x) c memory.now }
     ensures { (stack : List ℕ) → whole result v.new stack ≡ with_wait Idle
         (onward

@@ -1,3 +1,2 @@
--- What the test of the lengths tells, and that the promises are tight.
-pub mod Lengths
+-- That the promises are tight.
 pub mod OnlyOne

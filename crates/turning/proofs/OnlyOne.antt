@@ -2,8 +2,7 @@
 use mathlib.Core.Path.{◌≡◌, sym, ◌∙◌}
 use mathlib.Core.List.{List}
 use Prim.Native.Nat.{ℕ}
-use Rattle.rules.specs.declared.Outcome.{Outcome}
-use Rattle.rules.specs.Refusal.{number}
+use Rattle.rules.specs.Refusal.{Outcome, number}
 use Rattle.rules.proofs.OnlyOne.{one_outcome}
 use Rattle.turning.specs.Turn.{turn_refusal, rows_after, bytes_after}
 

@@ -18,41 +18,45 @@ ghost use Rattle.decode.specs.Ways.{way_of};
 
 use parts::Core;
 use picture::Spots;
-use rules::{Machine, Op, Outcome, Refusal};
+use rules::{Machine, Op, Refusal};
 
 // Whether the n bytes from I on are below the end of memory.
-fn past(c: Core, n: usize) -> Outcome
+fn past(c: Core, n: usize) -> Result<(), Refusal>
     requires { n ≤ 256 }
     ensures { (v stack : List ℕ) → number result ≡ rule.past (whole c v stack) n }
 {
     if n == 0 {
-        return Outcome::Done;
+        return Ok(());
     }
     if c.i as usize + n <= c.end as usize {
-        return Outcome::Done;
+        return Ok(());
     }
-    Outcome::Refused(Refusal::MemoryPastEnd)
+    Err(Refusal::MemoryPastEnd)
 }
 
 // Whether the number of lit spots stays in its range in a drawing. One that is further from both ends than the pattern has bits needs no
 // look; else what the drawing would turn over is counted, and nothing is written.
-fn late_drawing(lit: u16, column: usize, row: usize, pattern: &[u8], rows: &[u64]) -> Outcome
-    requires { (lit ≤ spot_count) × (column < 64) × (row < 32) × (length rows.now ≡ 32) × (length pattern.now ≤ 16) }
+fn late_drawing(
+    lit: u16,
+    column: usize,
+    row: usize,
+    pattern: &[u8],
+    rows: &[u64; Machine::ROWS],
+) -> Result<(), Refusal>
+    requires { (lit ≤ spot_count) × (column < 64) × (row < 32) × (length pattern.now ≤ 16) }
     ensures { number result ≡ rule.lit_refusal lit (bytes_of rows.now)
         (drawn pattern.now column row (bytes_of rows.now)) }
 {
     let most = 8 * pattern.len();
     let number = lit as usize;
-    if most <= number {
-        if number + most <= Machine::SPOTS {
-            return Outcome::Done;
-        }
+    if most <= number && number + most <= Machine::SPOTS {
+        return Ok(());
     }
     lit::late(lit, drawing::would_turn(rows, pattern, column, row))
 }
 
 // The same of 00E0, which makes so many lit spots dark.
-fn late_clearing(lit: u16, dark: usize) -> Outcome
+fn late_clearing(lit: u16, dark: usize) -> Result<(), Refusal>
     requires { dark ≤ spot_count }
     ensures { (p q : List ℕ) → Balance (record { dark = dark; lit = 0 }) p q → number result ≡ rule.lit_refusal lit p q }
 {
@@ -60,55 +64,58 @@ fn late_clearing(lit: u16, dark: usize) -> Outcome
 }
 
 // DXYN: 6, then the late 10.
-pub fn drawable(c: Core, column: usize, row: usize, n: u8, memory: &[u8], rows: &[u64]) -> Outcome
-    requires { (c.lit ≤ spot_count) × (c.end ≤ memory_size) × (column < 64) × (row < 32) × (length memory.now ≡ memory_size)
-        × (length rows.now ≡ 32) × (n ≤ 15) }
+pub fn drawable(
+    c: Core,
+    column: usize,
+    row: usize,
+    n: u8,
+    memory: &[u8; Machine::MEMORY],
+    rows: &[u64; Machine::ROWS],
+) -> Result<(), Refusal>
+    requires { (c.lit ≤ spot_count) × (c.end ≤ memory_size) × (column < 64) × (row < 32) × (n ≤ 15) }
     ensures { (v stack : List ℕ) → number result ≡ or_later (rule.past (whole c v stack) n)
         (rule.lit_refusal c.lit (bytes_of rows.now)
         (drawn (part memory.now c.i n) column row (bytes_of rows.now))) }
 {
-    let outcome = past(c, n as usize);
-    let Outcome::Done = outcome else {
-        return outcome;
-    };
+    past(c, n as usize)?;
     late_drawing(c.lit, column, row, transfers::pattern(c.i, n, memory), rows)
 }
 
 // What a quiet instruction needs: 4, 5 or 6. It leaves the picture, so no late 10 can come. Of the others it is never asked.
-pub fn judged_quiet(op: Op, c: Core) -> Outcome
+pub fn judged_quiet(op: Op, c: Core) -> Result<(), Refusal>
     requires { (way_of op ≡ way.Quiet) × (c.lit ≤ spot_count) }
     ensures { (v stack memory picture : List ℕ) → Bytes picture_size picture → number result ≡ or_later (rule.refusal_of op (whole c v stack))
         (rule.lit_refusal c.lit picture (rule.picture_after op (whole c v stack) memory picture)) }
 {
     match op {
-        Op::Plain(_) => Outcome::Done,
-        Op::AwaitKey(_) => Outcome::Done,
+        Op::Plain(_) => Ok(()),
+        Op::AwaitKey(_) => Ok(()),
         Op::Call(_) => {
             if (c.depth as usize) < Machine::STACK {
-                return Outcome::Done;
+                return Ok(());
             }
-            Outcome::Refused(Refusal::StackFull)
+            Err(Refusal::StackFull)
         }
         Op::Return => {
             if 0 < c.depth {
-                return Outcome::Done;
+                return Ok(());
             }
-            Outcome::Refused(Refusal::StackEmpty)
+            Err(Refusal::StackEmpty)
         }
-        Op::Clear => Outcome::Done,
-        Op::Draw(_, _, _) => Outcome::Done,
-        Op::Decimal(_) => Outcome::Done,
-        Op::Store(_) => Outcome::Done,
+        Op::Clear => Ok(()),
+        Op::Draw(_, _, _) => Ok(()),
+        Op::Decimal(_) => Ok(()),
+        Op::Store(_) => Ok(()),
         Op::Fetch(x) => past(c, registers::up_to(x)),
-        Op::Unlisted => Outcome::Done,
-        Op::MachineCode => Outcome::Done,
+        Op::Unlisted => Ok(()),
+        Op::MachineCode => Ok(()),
     }
 }
 
 // How many lit spots any other instruction makes dark that is no drawing: all of them for 00E0, and else none. They are counted once, for
 // the judgement and for the act.
-pub fn cleared(op: Op, rows: &[u64]) -> usize
-    requires { (way_of op ≡ way.Other) × (length rows.now ≡ 32) }
+pub fn cleared(op: Op, rows: &[u64; Machine::ROWS]) -> usize
+    requires { way_of op ≡ way.Other }
     ensures balance { (m : machine.Machine) (memory : List ℕ) → Balance (record { dark = result; lit = 0 }) (bytes_of rows.now)
         (rule.picture_after op m memory (bytes_of rows.now)) }
     ensures upper_bound { result ≤ spot_count }
@@ -130,23 +137,23 @@ pub fn cleared(op: Op, rows: &[u64]) -> usize
 
 // What such an instruction needs: 2 or 3, or 6, and after it the late 10, of a number of lit spots that would leave its range. Of those that
 // have a way of their own it is never asked.
-pub fn judged(op: Op, c: Core, dark: usize) -> Outcome
+pub fn judged(op: Op, c: Core, dark: usize) -> Result<(), Refusal>
     requires { (way_of op ≡ way.Other) × (c.lit ≤ spot_count) × (dark ≤ spot_count) }
     ensures { (v stack memory picture : List ℕ) → Balance (record { dark = dark; lit = 0 }) picture
         (rule.picture_after op (whole c v stack) memory picture) → number result ≡ or_later (rule.refusal_of op (whole c v stack))
         (rule.lit_refusal c.lit picture (rule.picture_after op (whole c v stack) memory picture)) }
 {
     match op {
-        Op::Plain(_) => Outcome::Done,
-        Op::AwaitKey(_) => Outcome::Done,
-        Op::Call(_) => Outcome::Done,
-        Op::Return => Outcome::Done,
+        Op::Plain(_) => Ok(()),
+        Op::AwaitKey(_) => Ok(()),
+        Op::Call(_) => Ok(()),
+        Op::Return => Ok(()),
         Op::Clear => late_clearing(c.lit, dark),
-        Op::Draw(_, _, _) => Outcome::Done,
+        Op::Draw(_, _, _) => Ok(()),
         Op::Decimal(_) => past(c, 3),
         Op::Store(x) => past(c, registers::up_to(x)),
-        Op::Fetch(_) => Outcome::Done,
-        Op::Unlisted => Outcome::Refused(Refusal::Unlisted),
-        Op::MachineCode => Outcome::Refused(Refusal::MachineCode),
+        Op::Fetch(_) => Ok(()),
+        Op::Unlisted => Err(Refusal::Unlisted),
+        Op::MachineCode => Err(Refusal::MachineCode),
     }
 }

@@ -15,12 +15,11 @@ use Rattle.rules.specs.declared.Op.{Op}
 use Rattle.rules.specs.declared.Op.TheVariants.{Plain, AwaitKey, Call, Return, Clear, Draw, Decimal, Store, Fetch}
 use Rattle.rules.specs.declared.Op.TheVariants.{Unlisted, MachineCode}
 use Rattle.rules.specs.declared.Simple.{Simple}
-use Rattle.rules.specs.declared.Outcome.{Outcome}
+use Rattle.std.specs.Prelude.{Result, Ok, Err}
 use Rattle.rules.specs.declared.Refusal.{Refusal}
 use Rattle.rules.specs.declared.Refusal.TheVariants.{PcPastEnd}
-use Rattle.rules.specs.declared.Outcome.TheVariants.{Done, Refused}
 use Rattle.rules.specs.Number.{or_later}
-use Rattle.rules.specs.Refusal.{number}
+use Rattle.rules.specs.Refusal.{number, number_of}
 use Rattle.rules.specs.Memory.{over}
 use Rattle.rules.specs.Record.{old, count, record_with, record_of}
 use Rattle.rules.specs.Rows.{bytes_of}
@@ -35,7 +34,7 @@ use Rattle.rules.proofs.Counted.{same_passes}
 use Rattle.rules.proofs.Ready.{Ready, step_own_law, stepped_follows}
 use Rattle.rules.proofs.Undo.{Fits}
 use Rattle.rules.proofs.Copied.{table_counts, table_few}
-use Rattle.rules.proofs.Given.{Back, given_refused, answered_done, refused_some}
+use Rattle.rules.proofs.Given.{Back, given_refused, answered_done, done_number, some_number}
 use Rattle.trail.specs.InRange.{InRange}
 use Rattle.decode.specs.declared.Way.TheVariants as way
 use Rattle.decode.specs.Ways.{way_of}
@@ -47,7 +46,7 @@ use Rattle.keeping.proofs.Laid.{kept, nothing_old}
 use Rattle.parts.specs.Whole.{whole}
 use Rattle.parts.specs.declared.Core.{Core}
 use Rattle.ways.specs.declared.Stepped.{Stepped}
-use Rattle.ways.specs.Steps.{Reached, Made}
+use Rattle.ways.specs.Steps.{Reached, Steps}
 use Rattle.ways.proofs.Keep.{reaches}
 
 module _ (w : World) (h : Ready w) where
@@ -64,19 +63,19 @@ module _ (w : World) (h : Ready w) where
   near_left near = step_own_law w h ∙ rw (le-leb m.pc (m.end - 2) near)
 
   -- a refused step darkens nothing, and copies nothing
-  refused_dark : (r : Refusal) → number (Refused r) ≡ step_refusal w → step_dark w ≡ 0
+  refused_dark : (r : Refusal) → number_of r ≡ step_refusal w → step_dark w ≡ 0
   unfolding step_dark
-  refused_dark r e = rw (ne_eqb (step_refusal w) 0 (λ z. refused_some r (e ∙ z)))
+  refused_dark r e = rw (ne_eqb (step_refusal w) 0 (λ z. some_number r (e ∙ z)))
 
-  refused_copied : (r : Refusal) → number (Refused r) ≡ step_refusal w → step_copied w ≡ 0
+  refused_copied : (r : Refusal) → number_of r ≡ step_refusal w → step_copied w ≡ 0
   unfolding step_copied
-  refused_copied r e = rw (ne_eqb (step_refusal w) 0 (λ z. refused_some r (e ∙ z)))
+  refused_copied r e = rw (ne_eqb (step_refusal w) 0 (λ z. some_number r (e ∙ z)))
 
   module _ (past : m.end - 2 < m.pc) where
-    far_says : number (Refused PcPastEnd) ≡ step_refusal w
+    far_says : number_of PcPastEnd ≡ step_refusal w
     far_says = sym (step_own_law w h ∙ rw (lt-leb m.pc (m.end - 2) past))
 
-    pub far : (keys random : ℕ) → Back (step keys random w) (Refused PcPastEnd) w
+    pub far : (keys random : ℕ) → Back {A = Stepped} (step keys random w) (Err PcPastEnd) w
     unfolding step
     far keys random = given_refused (step_refusal w) (stepped keys random w) w PcPastEnd far_says
 
@@ -86,11 +85,11 @@ module _ (w : World) (h : Ready w) where
     pub far_copied : step_copied w ≡ 0
     far_copied = refused_copied PcPastEnd far_says
 
-  module _ (op : Op) (r : Refusal) (e : op ≡ op_at (board_of w)) (near : m.pc ≤ m.end - 2) (n : number (Refused r) ≡ verdict op) where
-    judged_says : number (Refused r) ≡ step_refusal w
+  module _ (op : Op) (r : Refusal) (e : op ≡ op_at (board_of w)) (near : m.pc ≤ m.end - 2) (n : number_of r ≡ verdict op) where
+    judged_says : number_of r ≡ step_refusal w
     judged_says = n ∙ ap verdict e ∙ sym (near_left near)
 
-    pub judged_refused : (keys random : ℕ) → Back (step keys random w) (Refused r) w
+    pub judged_refused : (keys random : ℕ) → Back {A = Stepped} (step keys random w) (Err r) w
     unfolding step
     judged_refused keys random = given_refused (step_refusal w) (stepped keys random w) w r judged_says
 
@@ -154,18 +153,18 @@ module _ (w : World) (h : Ready w) where
         → Became (acted op keys random m w.memory w.picture) m' mem pic
         → t' ≡ grown (places w.history) w.trail
         → his ≡ over w.history (292 * w.trail.next) (record_of (change_of op m) (Step keys random) (board_of w)) 292
-        → Gives (step keys random w) Done m' t' mem pic his
+        → (s : Stepped) → Gives (step keys random w) (Ok s) m' t' mem pic his
     unfolding step stepped
-    step_gives keys random m' t' mem pic his b t k =
+    step_gives keys random m' t' mem pic his b t k s =
         let b' = rw e at b in
         rw (answered_done (step_refusal w) (stepped keys random w) w passes)
         (record { says = refl; machine = b'.machine; trail = t; memory = b'.memory; picture = b'.picture; history = rw e at k })
 
 -- ---- the ways through a step
 
--- what was judged Done passed
-pub passed : {o : Outcome} {n : ℕ} → number o ≡ n → o ≡ Done → n ≡ 0
-passed says done = sym says ∙ ap number done
+-- what was not refused passed
+pub passed : {A : Type 0} {o : Result A Refusal} {x : A} {n : ℕ} → number o ≡ n → o ≡ Ok x → n ≡ 0
+passed says done = sym says ∙ done_number done
 
 -- a record that says that nothing changed is whole without old bytes
 pub nothing_kept : (m : Machine) (a : Action) (history his : List ℕ) (at : ℕ) → his ≡ over history at (blank m Nothing a) 292
@@ -173,11 +172,11 @@ pub nothing_kept : (m : Machine) (a : Action) (history his : List ℕ) (at : ℕ
 nothing_kept m a history his at e = e ∙ ap (λ (l : List ℕ). over history at l 292) (nothing_old m a)
 
 -- a refused step hands everything back
-pub back : (keys random : ℕ) (c : Core) (v stack : List ℕ) (t : Trail) (mem pic his : List ℕ) (o : Outcome)
+pub back : (keys random : ℕ) (c : Core) (v stack : List ℕ) (t : Trail) (mem pic his : List ℕ) (r : Refusal)
     → let w = world (whole c v stack) t mem pic his in
-    Back (step keys random w) o w → step_dark w ≡ 0 → step_copied w ≡ 0
-    → Made keys random w (record { outcome = o; core = c; trail = t; dark = 0; copied = 0 }) v stack mem pic his
-back keys random c v stack t mem pic his o gives dark copied =
+    Back {A = Stepped} (step keys random w) (Err r) w → step_dark w ≡ 0 → step_copied w ≡ 0
+    → Steps keys random w (Err r) v stack mem pic his
+back keys random c v stack t mem pic his r gives dark copied =
     record { gives = gives; dark = sym dark; dark_few = omega arith; copied = sym copied; copied_few = omega arith }
 
 -- the instruction that was reached, by another name
@@ -187,27 +186,26 @@ reached_as e r = record { ready = r.ready; near = r.near; there = sym e ∙ r.th
 -- and so does one whose instruction is refused
 pub reached_back : (keys random : ℕ) (c : Core) (v stack : List ℕ) (t : Trail) (mem pic his : List ℕ) (op : Op) (f : Refusal)
     → let w = world (whole c v stack) t mem pic his in
-    (r : Reached op w) → number (Refused f) ≡ verdict w r.ready op
-    → Made keys random w (record { outcome = Refused f; core = c; trail = t; dark = 0; copied = 0 }) v stack mem pic his
+    (r : Reached op w) → number_of f ≡ verdict w r.ready op
+    → Steps keys random w (Err f) v stack mem pic his
 reached_back keys random c v stack t mem pic his op f r says =
     let w = world (whole c v stack) t mem pic his in
-    back keys random c v stack t mem pic his (Refused f)
+    back keys random c v stack t mem pic his f
     (judged_refused w r.ready op f r.there r.near says keys random)
     (judged_dark w r.ready op f r.there r.near says)
     (judged_copied w r.ready op f r.there r.near says)
 
 module _ (w : World) (op : Op) (r : Reached op w) where
   pub made : verdict w r.ready op ≡ 0 → (keys random : ℕ) (s : Stepped) (v stack mem pic his : List ℕ)
-      → s.outcome ≡ Done
       → Became (acted op keys random w.machine w.memory w.picture) (whole s.core v stack) mem pic
       → s.trail ≡ grown (places w.history) w.trail
       → his ≡ over w.history (292 * w.trail.next) (record_of (change_of op w.machine) (Step keys random) (board_of w)) 292
-      → s.dark ≡ dark_of op w.machine w.memory w.picture → s.dark ≤ 120 → s.copied ≡ count (change_of op w.machine)
-      → Made keys random w s v stack mem pic his
-  made allowed keys random s v stack mem pic his done became trail kept dark few copied =
+      → s.counts.dark ≡ dark_of op w.machine w.memory w.picture → s.counts.dark ≤ 120 → s.counts.copied ≡ count (change_of op w.machine)
+      → Steps keys random w (Ok s) v stack mem pic his
+  made allowed keys random s v stack mem pic his became trail kept dark few copied =
       let h = r.ready in
       record {
-        gives = rw done (step_gives w h op r.there r.near allowed keys random _ _ _ _ _ became trail kept);
+        gives = step_gives w h op r.there r.near allowed keys random _ _ _ _ _ became trail kept s;
         dark = dark ∙ sym (step_dark_law w h op r.there r.near allowed);
         dark_few = few;
         copied = copied ∙ sym (step_copied_law w h op r.there r.near allowed);

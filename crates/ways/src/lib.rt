@@ -9,33 +9,24 @@ ghost use Rattle.parts.specs.Whole.{whole};
 ghost use Rattle.rules.specs.Instruction.{decode};
 ghost use Rattle.decode.specs.declared.Way.TheVariants as way;
 ghost use Rattle.decode.specs.Ways.{way_of};
-ghost use Rattle.ways.specs.Steps.{Reached, Made};
+ghost use Rattle.ways.specs.Steps.{Reached, Steps};
 
 use parts::Core;
-use rules::{Action, Machine, Op, Outcome, Trail};
+use rules::{Action, Machine, Op, Refusal, Trail};
 
-// What a step hands back beside what is lent: what came of it, the core, the history's numbers, the number of lit spots that it darkened,
-// and how many bytes its record keeps.
+// The number of lit spots that a step darkened, and how many bytes its record keeps.
 #[derive(Clone, Copy)]
-pub struct Stepped {
-    pub outcome: Outcome,
-    pub core: Core,
-    pub trail: Trail,
+pub struct Counts {
     pub dark: usize,
     pub copied: usize,
 }
 
-// What a refused step hands back: the core and the numbers as they came.
-pub fn refused(outcome: Outcome, c: Core, trail: Trail) -> Stepped
-    ensures { result ≡ record { outcome = outcome; core = c; trail = trail; dark = 0; copied = 0 } }
-{
-    Stepped {
-        outcome,
-        core: c,
-        trail,
-        dark: 0,
-        copied: 0,
-    }
+// What an accepted step hands back beside what is lent: the core, the history's numbers, and what is counted of it.
+#[derive(Clone, Copy)]
+pub struct Stepped {
+    pub core: Core,
+    pub trail: Trail,
+    pub counts: Counts,
 }
 
 // An instruction that acts on the state alone is never refused, and its record keeps no old bytes. Which one the two bytes are is found after
@@ -47,30 +38,27 @@ pub fn plain_step(
     v: &mut [u8; 16],
     stack: &[u16; Machine::STACK],
     trail: Trail,
-    memory: &[u8],
-    rows: &[u64],
+    memory: &[u8; Machine::MEMORY],
+    rows: &[u64; Machine::ROWS],
     history: &mut [u8],
     keys: u16,
     random: u8,
-) -> Stepped
+) -> Result<Stepped, Refusal>
     requires { (way_of (decode c.edition hi lo) ≡ way.Plain) × Reached (decode c.edition hi lo)
         (world (whole c v.old stack.now) trail memory.now (bytes_of rows.now) history.old) }
-    ensures { Made keys random
+    ensures { Steps keys random
         (world (whole c v.old stack.now) trail memory.now (bytes_of rows.now)
         history.old) result v.new stack.now memory.now (bytes_of rows.now) history.new }
 {
     let places = fitting::places(history);
-    let next = trail.next;
-    keeping::keep_state(history, next, c, v, stack, Action::Step(keys, random));
+    keeping::keep_state(history, trail.next, c, v, stack, Action::Step(keys, random));
     let simple = decode::simple_of(hi, lo);
     let core = registers::idle(instructions::simple(simple, c, v, keys, random));
-    Stepped {
-        outcome: Outcome::Done,
+    Ok(Stepped {
         core,
         trail: trail::grown(trail, places),
-        dark: 0,
-        copied: 0,
-    }
+        counts: Counts { dark: 0, copied: 0 },
+    })
 }
 
 // A quiet instruction is judged, and its record keeps no old bytes either. It is found anew after the record, for the same reason.
@@ -81,35 +69,29 @@ pub fn quiet_step(
     v: &mut [u8; 16],
     stack: &mut [u16; Machine::STACK],
     trail: Trail,
-    memory: &[u8],
-    rows: &[u64],
+    memory: &[u8; Machine::MEMORY],
+    rows: &[u64; Machine::ROWS],
     history: &mut [u8],
     keys: u16,
     random: u8,
-) -> Stepped
+) -> Result<Stepped, Refusal>
     requires { (way_of (decode c.edition hi lo) ≡ way.Quiet) × Reached (decode c.edition hi lo)
         (world (whole c v.old stack.old) trail memory.now (bytes_of rows.now) history.old) }
-    ensures { Made keys random
+    ensures { Steps keys random
         (world (whole c v.old stack.old) trail memory.now (bytes_of rows.now)
         history.old) result v.new stack.new memory.now (bytes_of rows.now) history.new }
 {
     let op = decode::quiet_of(hi, lo);
-    let outcome = verdict::judged_quiet(op, c);
-    let Outcome::Done = outcome else {
-        return refused(outcome, c, trail);
-    };
+    verdict::judged_quiet(op, c)?;
     let places = fitting::places(history);
-    let next = trail.next;
-    keeping::keep_state(history, next, c, v, stack, Action::Step(keys, random));
+    keeping::keep_state(history, trail.next, c, v, stack, Action::Step(keys, random));
     let op = decode::quiet_of(hi, lo);
     let core = act::act_quiet(op, c, v, stack, memory, keys);
-    Stepped {
-        outcome: Outcome::Done,
+    Ok(Stepped {
         core,
         trail: trail::grown(trail, places),
-        dark: 0,
-        copied: 0,
-    }
+        counts: Counts { dark: 0, copied: 0 },
+    })
 }
 
 // Any other instruction that is no drawing is judged, its record is kept with the bytes that are about to change, and it acts.
@@ -119,41 +101,38 @@ pub fn other_step(
     v: &[u8; 16],
     stack: &[u16; Machine::STACK],
     trail: Trail,
-    memory: &mut [u8],
-    rows: &mut [u64],
+    memory: &mut [u8; Machine::MEMORY],
+    rows: &mut [u64; Machine::ROWS],
     history: &mut [u8],
     keys: u16,
     random: u8,
-) -> Stepped
+) -> Result<Stepped, Refusal>
     requires { (way_of op ≡ way.Other) × Reached op (world (whole c v.now stack.now) trail memory.old (bytes_of rows.old) history.old) }
-    ensures { Made keys random
+    ensures { Steps keys random
         (world (whole c v.now stack.now) trail memory.old (bytes_of rows.old)
         history.old) result v.now stack.now memory.new (bytes_of rows.new) history.new }
 {
     let dark = verdict::cleared(op, rows);
-    let outcome = verdict::judged(op, c, dark);
-    let Outcome::Done = outcome else {
-        return refused(outcome, c, trail);
-    };
+    verdict::judged(op, c, dark)?;
     let places = fitting::places(history);
     let change = transfers::change_of(op, c, v);
-    let next = trail.next;
     keeping::keep(
         history,
-        next,
+        trail.next,
         c,
         v,
         stack,
         change,
         Action::Step(keys, random),
     );
-    keeping::keep_old(history, next, change, memory, rows);
+    keeping::keep_old(history, trail.next, change, memory, rows);
     let core = act::act(op, c, v, memory, rows, dark);
-    Stepped {
-        outcome: Outcome::Done,
+    Ok(Stepped {
         core,
         trail: trail::grown(trail, places),
-        dark: 0,
-        copied: fields::count_of(change) as usize,
-    }
+        counts: Counts {
+            dark: 0,
+            copied: fields::count_of(change) as usize,
+        },
+    })
 }

@@ -14,7 +14,7 @@ pub clear-requires : goal.clear-requires
 clear-requires c =
     let ok = c.requires [] in
     let is = c.in-Clear.is in
-    (ok.near, ok.rows, clear_passes _ _ _ _ ok.passes is, ok.most, clear_balance _ _ _ _ _ ok.balance is)
+    (ok.near, clear_passes _ _ _ _ ok.passes is, ok.most, clear_balance _ _ _ _ _ ok.balance is)
 
 pub decimal-requires : goal.decimal-requires
 decimal-requires c =

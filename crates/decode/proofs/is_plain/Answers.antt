@@ -7,8 +7,7 @@ use Rattle.decode.proofs.is_plain.Goals as goal
 
 pub overflow_shr-result : goal.overflow_shr-result
 overflow_shr-result c =
-    let s = c in
-    omega (arith, c.looked_for-digit.ensures, choice (λ (k : ℕ). k < 16) (eqb s.args.d 8) s.requires.1 s.requires.0)
+    omega (arith, c.looked_for-digit.ensures, choice (λ (k : ℕ). k < 16) (eqb c.args.d 8) c.requires.1 c.requires.0)
 
 pub returns : goal.returns
 returns c = rw (c.looked_among-digits.ensures, c.looked_for-digit.ensures)

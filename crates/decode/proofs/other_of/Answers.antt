@@ -50,7 +50,6 @@ returns-in-15 c = rw c.in-15.is (λ edition. c.store_of.ensures)
 pub returns-in_default : goal.returns-in_default
 unfolding decode
 returns-in_default c edition =
-    let s = c in
-    let a = s.args in
+    let a = c.args in
     let r = c.in_default.in_default-own.rest in
-    left edition a.hi (a.hi % 16) (a.lo / 16) (a.lo % 16) a.lo (a.hi % 16 * 256 + a.lo) (a.hi / 16) (omega (arith, s.ranges.hi)) r.0.1 r.1
+    left edition a.hi (a.hi % 16) (a.lo / 16) (a.lo % 16) a.lo (a.hi % 16 * 256 + a.lo) (a.hi / 16) (omega (arith, c.ranges.hi)) r.0.1 r.1

@@ -50,8 +50,7 @@ returns-in-13 c = rw c.in-13.is (λ edition e. refl)
 pub returns-in_default : goal.returns-in_default
 unfolding decode
 returns-in_default c edition =
-    let s = c in
-    let a = s.args in
+    let a = c.args in
     let r = c.in_default.in_default-own.rest in
     left edition a.hi (a.hi % 16) (a.lo / 16) (a.lo % 16) a.lo (a.hi % 16 * 256 + a.lo) _ c.key_or_fetch_of.ensures
-    (a.hi / 16) (omega (arith, s.ranges.hi)) r.0.0.1 r.0.1 r.1
+    (a.hi / 16) (omega (arith, c.ranges.hi)) r.0.0.1 r.0.1 r.1

@@ -59,9 +59,8 @@ returns-in-15 c = rw c.in-15.is (c.other_way.ensures _)
 
 pub returns-in_default : goal.returns-in_default
 returns-in_default c =
-    let s = c in
     let r = c.in_default.in_default-own.rest in
     let q = r.0.0.0 in
-    let d = s.args.hi / 16 in
+    let d = c.args.hi / 16 in
     let dark : is_one d plain_digits ≡ false = rw (ne_eqb d 8 q.0.1) at (sym c.is_plain.ensures ∙ c.if-is_plain.false) in
-    absurd (left d (omega (arith, s.ranges.hi)) dark q.0.0.0.0.1 q.0.0.0.1 q.0.0.1 q.0.1 q.1 r.0.0.1 r.0.1 r.1)
+    absurd (left d (omega (arith, c.ranges.hi)) dark q.0.0.0.0.1 q.0.0.0.1 q.0.0.1 q.0.1 q.1 r.0.0.1 r.0.1 r.1)

@@ -10,7 +10,7 @@ unfolding are_digits
 digit_byte-requires c = (omega arith, refl)
 
 pub returns-then-line-lt-EACH : goal.returns-then-line-lt-EACH
-returns-then-line-lt-EACH c = rw (lt-ltb _ 5 c.if-line-lt-EACH.true) c.digit_byte.ensures
+returns-then-line-lt-EACH c = rw (lt-ltb c.args.line 5 (omega arith), ← c.from-line.ensures, ← c.from.ensures) c.digit_byte.ensures
 
 pub returns : goal.returns
-returns c = rw (le-ltb _ 5 c.if-line-lt-EACH.false)
+returns c = rw (le-ltb c.args.line 5 (omega arith))

@@ -1,5 +1,5 @@
 -- The invariant: of the rows that are passed both counts are right.
-use Prim.Native.Nat.{◌+◌, ◌-◌, ◌≤◌}
+use Prim.Native.Nat.{◌+◌}
 use Rattle.picture.proofs.LitRows.{CountedAbove}
 use Rattle.pattern.specs.Masks.{met_at, shows_at}
 use Rattle.drawing.proofs.would_turn.Given as goal
@@ -7,7 +7,4 @@ use Rattle.drawing.proofs.would_turn.Given as goal
 abbrev pub invariant-loop-k : goal.invariant-loop-k
 invariant-loop-k l =
     CountedAbove (λ j. met_at l.pattern l.column l.row l.rows (l.row + j)) l.k l.dark
-    × CountedAbove (λ j. shows_at l.pattern l.column l.row (l.row + j)) l.k l.shown × (l.k ≤ l.all)
-
-abbrev pub decreases-loop-k : goal.decreases-loop-k
-decreases-loop-k l = l.all - l.k
+    × CountedAbove (λ j. shows_at l.pattern l.column l.row (l.row + j)) l.k l.shown

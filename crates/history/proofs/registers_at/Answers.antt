@@ -1,13 +1,11 @@
--- Sixteen bytes laid over sixteen are those bytes.
-use mathlib.Core.Path.{◌≡◌, ◌∙◌}
+-- The first bytes of what begins there, all of which the place has.
+use mathlib.Core.Path.{◌∙◌}
 use native.Mathlib.Omega.{arith}
-use lib.ListN.{length, length-take, length-drop}
-use Rattle.rules.specs.Memory.{part}
-use Rattle.rules.proofs.Laid.{over_all}
+use lib.ListN.{drop}
+use lib.Seq.{take-take}
 use Rattle.history.proofs.registers_at.Goals as goal
 
 pub returns : goal.returns
 returns c =
-    let p = part c.args.place.now 2 16 in
-    let sixteen : length p ≡ 16 = simp (length-take, length-drop) (omega arith) in
-    c.lay.ensures ∙ over_all _ p (omega (arith, sixteen))
+    let chunk = rw c.unwrap.ensures at c.first_chunk.ensures.cases in
+    chunk.same ∙ take-take 16 290 (drop 2 c.args.place.now) (omega arith)

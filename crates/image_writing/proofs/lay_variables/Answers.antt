@@ -1,9 +1,7 @@
--- The variables are sixteen.
-use Rattle.std.proofs.Common.{◌≡◌, length, refl, arith, rules}
-use Rattle.image_writing.proofs.Pieces.{stands}
+-- The variables are sixteen, and the first sixteen bytes are they.
+use Rattle.std.proofs.Common.{rules}
+use lib.Seq.{take_at}
 use Rattle.image_writing.proofs.lay_variables.Goals as goal
 
 pub returns : goal.returns
-returns c =
-    let sixteen : length c.args.v ≡ 16 = search rules in
-    stands c.args.v 0 16 c.lay.ensures (omega arith) refl sixteen
+returns c = record { front = take_at c.args.v _ 16 (search rules) }

@@ -12,22 +12,17 @@ use Rattle.imaged.proofs.Laws.{play_sound, play_left, seen_list}
 use Rattle.imaged.proofs.Chains.{play_stands}
 use Rattle.imaged_lists.proofs.play.Goals as goal
 
-pub after_list-requires : goal.after_list-requires
-after_list-requires c = c.requires
-
 pub returns : goal.returns
 returns c =
-    let read = c.read-before.ensures in
-    let played = rw (read.0, read.1) at c.play-answer.ensures in
-    let after = c.after_list.ensures in
+    let played = rw (c.read.ensures.0, c.read.ensures.1) at c.play-outcome.ensures in
     let a = c.args in
     let lent : Lent a.image.now a.memory.now (bytes_of a.rows.now) a.history.now =
     record {
-      size = c.requires;
-      image = below_of a.image.now (λ i h. (c.slice_known-1.given i).fits);
-      memory = below_of a.memory.now (λ i h. (c.slice_known-2-1.given i).fits);
+      size = c.told-image;
+      image = below_of a.image.now (λ i h. c.fits-image i);
+      memory = below_of a.memory.now (λ i h. (c.slice_known-1.given i).fits);
       picture = bytes_below a.rows.now;
-      history = below_of a.history.now (λ i h. (c.slice_known-4-1.given i).fits);
+      history = below_of a.history.now (λ i h. (c.slice_known-3-1.given i).fits);
     } in
     let moves = a.moves.now in
     let keys = a.keys.now in
@@ -35,4 +30,9 @@ returns c =
     let w = world_of a.image.now a.memory.now (bytes_of a.rows.now) a.history.now in
     let leaves = seen_list a.image.now a.memory.now (bytes_of a.rows.now) a.history.now lent.size lent.image
     (play_refusal moves keys randoms w) (play moves keys randoms w) (play_sound moves keys randoms w) (play_left moves keys randoms w)
-    _ _ _ _ _ _ _ _ played.gives after.0 after.1 in record { leaves = leaves; play_tells = subst (λ (v : World). PlayTells moves keys randoms w v) (sym (play_stands moves keys randoms _ _ _ _ lent _ _ _ _ _ _ _ _ played.gives leaves)) played.play_tells }
+    _ _ _ _ _ _ _ _ played.gives c.after_list.ensures.0 c.after_list.ensures.1 in
+    record {
+      leaves = leaves;
+      play_tells = subst (λ (v : World). PlayTells moves keys randoms w v)
+          (sym (play_stands moves keys randoms _ _ _ _ lent _ _ _ _ _ _ _ _ played.gives leaves)) played.play_tells;
+    }

@@ -6,21 +6,13 @@ use Rattle.imaged.specs.Imaged.{world_of}
 use Rattle.imaged.proofs.Laws.{run_sound, run_left, seen_list}
 use Rattle.imaged_lists.proofs.run.Goals as goal
 
-pub after_list-n-requires : goal.after_list-n-requires
-after_list-n-requires c = c.requires
-
-pub returns : goal.returns
-returns c =
-    let read = c.read-before.ensures in
-    let ran = rw (read.0, read.1) at c.run-ran.ensures in
-    let after = c.after_list-n.ensures in
+pub returns-clause-leaves : goal.returns-clause-leaves
+returns-clause-leaves c =
+    let ran = rw (c.read.ensures.0, c.read.ensures.1) at c.run-ran.ensures.gives_run in
     let a = c.args in
     let w = world_of a.image.now a.memory.now (bytes_of a.rows.now) a.history.now in
-    let refusal = run_refusal a.ticks.now a.keys.now a.randoms.now w in
-    let answer = (run a.ticks.now a.keys.now a.randoms.now w).answer in record {
-      leaves = seen_list a.image.now a.memory.now (bytes_of a.rows.now) a.history.now c.requires
-          (below_of a.image.now (λ i h. (c.slice_known-1.given i).fits)) refusal answer
-          (run_sound a.ticks.now a.keys.now a.randoms.now w) (run_left a.ticks.now a.keys.now a.randoms.now w)
-          _ _ _ _ _ _ _ _ ran.gives_run.rest after.0 after.1;
-      accepted_value = (ran.gives_run.accepted, ran.dark_value.0, ran.dark_value.2);
-    }
+    seen_list a.image.now a.memory.now (bytes_of a.rows.now) a.history.now c.told-image
+    (below_of a.image.now (λ i h. c.fits-image i)) (run_refusal a.ticks.now a.keys.now a.randoms.now w)
+    (run a.ticks.now a.keys.now a.randoms.now w).answer
+    (run_sound a.ticks.now a.keys.now a.randoms.now w) (run_left a.ticks.now a.keys.now a.randoms.now w)
+    _ _ _ _ _ _ _ _ ran.rest c.after_list.ensures.0 c.after_list.ensures.1

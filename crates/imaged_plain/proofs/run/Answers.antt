@@ -3,11 +3,9 @@ use Rattle.rules.proofs.Parts.{below_of}
 use Rattle.imaged_plain.proofs.Seen.{seen}
 use Rattle.imaged_plain.proofs.run.Goals as goal
 
-pub returns : goal.returns
-returns c =
+pub returns-clause-leaves_plain : goal.returns-clause-leaves_plain
+returns-clause-leaves_plain c =
     let a = c.args in
-    let read = c.read-before.ensures in
-    let ran = rw read.0 at c.run-ran.ensures in
-    let after = rw read.1 at c.after_list-n.ensures in
-    let bytes = below_of a.image.now (λ i h. (c.slice_known-1.given i).fits) in
-    record { leaves_plain = seen _ _ _ a.image.now _ _ c.requires bytes _ _ _ _ _ _ _ ran after.0 after.1; accepted_value = ran.accepted }
+    let ran = rw c.read.ensures.0 at c.run-ran.ensures in
+    let after = rw c.read.ensures.1 at c.after_list.ensures in
+    seen _ _ _ a.image.now _ _ c.told-image (below_of a.image.now (λ i h. c.fits-image i)) _ _ _ _ _ _ _ ran after.0 after.1

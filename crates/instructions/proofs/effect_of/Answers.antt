@@ -5,7 +5,7 @@ pub returns-in-Jump : goal.returns-in-Jump
 returns-in-Jump c stack = rw c.in-Jump.is
 
 pub returns-in-JumpFrom : goal.returns-in-JumpFrom
-returns-in-JumpFrom c stack = rw (c.in-JumpFrom.is, c.get.ensures)
+returns-in-JumpFrom c stack = rw (c.in-JumpFrom.is, c.from.ensures, c.get.ensures)
 
 pub returns-in-SkipEqual : goal.returns-in-SkipEqual
 returns-in-SkipEqual c stack = rw (c.in-SkipEqual.is, c.skip.ensures, c.get-in-SkipEqual.ensures)
@@ -62,7 +62,7 @@ pub returns-in-Index : goal.returns-in-Index
 returns-in-Index c stack = rw c.in-Index.is
 
 pub returns-in-Digit : goal.returns-in-Digit
-returns-in-Digit c stack = rw (c.in-Digit.is, c.get-in-Digit.ensures)
+returns-in-Digit c stack = rw (c.in-Digit.is, c.from-in-Digit.ensures, c.get-in-Digit.ensures)
 
 pub returns-in-FromDelay : goal.returns-in-FromDelay
 returns-in-FromDelay c stack = rw c.in-FromDelay.is

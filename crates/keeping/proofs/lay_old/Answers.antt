@@ -4,6 +4,7 @@ use mathlib.Core.List.{List, [], append-nil}
 use Prim.Native.Nat.{ℕ, ◌+◌, ◌-◌, ◌*◌, ◌/◌, ◌%◌, ◌≤◌}
 use native.Mathlib.Nat.{add-zero}
 use native.Mathlib.Omega.{arith}
+use borrow.Author.Rules.{rules}
 use lib.ListN.{length, take, drop, take-append-drop}
 use Rattle.rules.specs.Memory.{part, over}
 use Rattle.rules.specs.Rows.{bytes_of}
@@ -31,34 +32,33 @@ rows_laid p q rows at s n hs hn e =
     rw (start, count) at e
 
 pub slice_bounds-lay-end : goal.slice_bounds-lay-end
-slice_bounds-lay-end c = let reach = rw c.in-InMemory.is at c.requires.1 in omega (arith, reach.1)
+slice_bounds-lay-end c = let reach = rw c.in-InMemory.is at c.requires in omega (arith, reach.1)
 
 pub lay-requires : goal.lay-requires
 lay-requires c =
-    let s = c in
     let given = c.in-InMemory.is in
-    let reach = rw given at s.requires.1 in
-    rw (lent_length s.args.memory.now c.in-InMemory.start c.in-InMemory.count reach.1) (omega (arith, reach.0, s.requires.0))
+    let reach = rw given at c.requires in
+    let room : length c.args.place.now ≡ 292 = search rules in
+    rw (lent_length c.args.memory.now c.in-InMemory.start c.in-InMemory.count reach.1) (omega (arith, reach.0, room))
 
 pub lay_rows-requires : goal.lay_rows-requires
 lay_rows-requires c =
-    let s = c in
-    let reach = rw c.in-InPicture.is at s.requires.1 in
-    (reach.3, omega (arith, reach.2), omega (arith, reach.2, s.requires.0))
+    let reach = rw c.in-InPicture.is at c.requires in
+    let room : length c.args.place.now ≡ 292 = search rules in
+    (omega (arith, reach.2), omega (arith, reach.2, room))
 
 pub returns-in-Nothing : goal.returns-in-Nothing
 returns-in-Nothing c = let a = c.args in rw c.in-Nothing.is (nothing_laid a.place.now 32)
 
 pub returns-in-InMemory : goal.returns-in-InMemory
 returns-in-InMemory c =
-    let s = c in
     let given = c.in-InMemory.is in
-    let reach = rw given at s.requires.1 in
-    rw given (part_laid s.args.memory.now c.in-InMemory.start c.in-InMemory.count reach.1 s.args.place.now _ 32 c.lay.ensures)
+    let reach = rw given at c.requires in
+    rw given (part_laid c.args.memory.now c.in-InMemory.start c.in-InMemory.count reach.1 c.args.place.now _ 32 c.lay.ensures)
 
 pub returns-in-InPicture : goal.returns-in-InPicture
 returns-in-InPicture c =
-    let s = c in
     let given = c.in-InPicture.is in
-    let reach = rw given at s.requires.1 in
-    rw given (rows_laid s.args.place.now _ s.args.rows.now 32 c.in-InPicture.start c.in-InPicture.count reach.0 reach.1 c.lay_rows.ensures)
+    let reach = rw given at c.requires in
+    let same = (rw c.unwrap-rows.ensures at c.as_array.ensures.cases).same in
+    rw given (rows_laid c.args.place.now _ c.args.rows.now 32 c.in-InPicture.start c.in-InPicture.count reach.0 reach.1 (rw same at c.lay_rows.ensures))

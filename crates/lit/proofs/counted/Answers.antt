@@ -3,4 +3,4 @@ use Rattle.lit.proofs.Laws.{becomes}
 use Rattle.lit.proofs.counted.Goals as goal
 
 pub returns : goal.returns
-returns c p q b = let s = c in becomes s.args.lit s.args.spots p q b s.requires.1
+returns c p q b = becomes c.args.lit c.args.spots p q b c.requires.1

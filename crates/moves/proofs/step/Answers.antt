@@ -23,22 +23,21 @@ returns-then-c-at c =
     let past = c.if-c-at.true in
     let h = c.requires in
     let a = c.args in
-    rw c.refused.ensures
-    (back a.keys a.random a.c a.v.now a.stack.now a.trail a.memory.now (bytes_of a.rows.now) a.history.now _
-    (far _ h past _ _) (far_dark _ h past) (far_copied _ h past))
+    back a.keys a.random a.c a.v.now a.stack.now a.trail a.memory.now (bytes_of a.rows.now) a.history.now _
+    (far _ h past _ _) (far_dark _ h past) (far_copied _ h past)
 
 pub plain_step-requires : goal.plain_step-requires
-plain_step-requires c = (sym c.way_of-way.ensures ∙ c.in-Plain.is, reached c.requires c.if-c-at.false)
+plain_step-requires c = (sym c.way_of.ensures ∙ c.in-Plain.is, reached c.requires c.if-c-at.false)
 
 pub quiet_step-requires : goal.quiet_step-requires
-quiet_step-requires c = (sym c.way_of-way.ensures ∙ c.in-Quiet.is, reached c.requires c.if-c-at.false)
+quiet_step-requires c = (sym c.way_of.ensures ∙ c.in-Quiet.is, reached c.requires c.if-c-at.false)
 
 pub drawing_step-requires : goal.drawing_step-requires
-drawing_step-requires c = reached_as (draws _ _ _ (sym c.way_of-way.ensures ∙ c.in-Drawing.is)) (reached c.requires c.if-c-at.false)
+drawing_step-requires c = reached_as (draws _ _ _ (sym c.way_of.ensures ∙ c.in-Drawing.is)) (reached c.requires c.if-c-at.false)
 
 pub other_step-requires : goal.other_step-requires
 other_step-requires c =
-    let other = sym c.way_of-way.ensures ∙ c.in-Other.is in
+    let other = sym c.way_of.ensures ∙ c.in-Other.is in
     let same = c.other_of.ensures _ other in
     (rw same at other, reached_as same (reached c.requires c.if-c-at.false))
 

@@ -8,7 +8,7 @@ loop-at-init c = none _ _ _ (omega arith)
 
 pub loop-at-preserved : goal.loop-at-preserved
 loop-at-preserved c =
-    rw c.put.ensures (more _ _ _ _ _ c.loop-at.invariant (omega arith) c.page_byte.ensures)
+    more _ _ _ _ _ c.loop-at.invariant (omega arith) c.page_byte.ensures
 
 pub returns : goal.returns
 returns c = all _ _ _ _ c.loop-at.invariant (omega arith)

@@ -1,9 +1,10 @@
--- The high half, and the low half behind it.
+-- Four bytes laid are two pairs.
 use mathlib.Core.Path.{◌∙◌}
+use Rattle.rules.proofs.Laid.{lent}
+use Rattle.panel.proofs.Dots.{four_laid}
 use Rattle.panel.proofs.put_four.Goals as goal
 
 pub returns : goal.returns
 returns c =
-    let low = c in
-    let high = low in
-    low.put_pair-2.ensures ∙ rw high.put_pair.ensures
+    let a = c.args in
+    lent _ _ _ _ _ (c.copy_from_slice.ensures.after ∙ c.to_be_bytes.ensures) ∙ four_laid a.panel.now a.at a.n c.requires

@@ -1,15 +1,23 @@
--- The invariant: the count is that of the rows above.
+-- The sum of what the rows have is that of the picture, and small.
+use mathlib.Core.Path.{◌≡◌}
+use Prim.Native.Nat.{◌^◌, ◌≤◌}
+use lib.ListN.{length}
 use native.Mathlib.Omega.{arith}
-use Rattle.picture.proofs.LitRows.{no_row, row_more, all_rows}
+use lib.Count.{ones}
+use Rattle.std.proofs.Common.{rules}
+use Rattle.std.specs.List.{sum_by}
+use Rattle.std.proofs.lemmas.Iterator.{YieldsList-from_slice}
+use Rattle.std.proofs.lemmas.Iterator.Adapters.{fits_from_length, at_most_from_yields_List}
+use Rattle.picture.proofs.LitRows.{rows_counted}
 use Rattle.picture.proofs.count.Goals as goal
 
-pub loop-row-init : goal.loop-row-init
-loop-row-init c = (no_row _, omega arith)
-
-pub loop-row-preserved : goal.loop-row-preserved
-loop-row-preserved c = (row_more _ _ _ _ c.loop-row.invariant.0 c.ones_in-lit.ensures.0 c.ones_in-lit.ensures.1, omega arith)
+pub sum-requires-clause-fits : goal.sum-requires-clause-fits
+sum-requires-clause-fits c =
+    let few : length c.args.rows.now ≤ 32 = omega arith in
+    fits_from_length _ _ 32 (2 ^ 64) (at_most_from_yields_List (YieldsList-from_slice c.args.rows.now cc) few) c.map.ensures.closure (omega arith)
+    (λ x r q k. search rules)
 
 pub returns : goal.returns
 returns c =
-    all_rows c.args.rows.now (λ k. omega (arith, c.shared_slice_known-1.given k)) _ _
-    c.loop-row.invariant.0 (omega arith)
+    let is : c.sum.result ≡ sum_by ones c.args.rows.now = search rules in
+    rw is (rows_counted c.args.rows.now c.fits-rows c.told-rows)

@@ -1,19 +1,12 @@
--- The invariant: n is made of the first j bytes.
-use mathlib.Core.Path.{◌≡◌, refl}
-use native.Mathlib.Omega.{arith}
-use Rattle.rules.specs.Rows.{joined}
-use Rattle.rules.proofs.Turning.{joined_more}
+-- Eight bytes of the slice are the row's.
+use mathlib.Core.Path.{◌≡◌, ap, ◌∙◌}
+use Rattle.std.proofs.Common.{rules}
+use Rattle.std.specs.Int.{w64, from_be_bytes}
+use Rattle.rules.specs.Memory.{part}
+use Rattle.picture.proofs.PutRow.{row_of}
 use Rattle.picture.proofs.row_at.Goals as goal
 
-pub loop-j-init : goal.loop-j-init
-unfolding joined
-loop-j-init c = (refl, omega arith)
-
-pub loop-j-preserved : goal.loop-j-preserved
-loop-j-preserved c =
-    let l = c.loop-j in
-    let a = c.args in
-    (joined_more a.bytes.now a.k (λ i. omega (arith, c.shared_slice_known-1.given i)) l.j l.n c.wide.result (omega arith) l.invariant.0 c.wide.ensures.0, omega arith)
-
 pub returns : goal.returns
-returns c = let all : c.loop-j.j ≡ 8 = omega arith in rw all at c.loop-j.invariant.0
+returns c =
+    let eight : c.unwrap.result.now ≡ part c.args.bytes.now c.args.k 8 = search rules in
+    c.from_be_bytes.ensures ∙ ap (from_be_bytes w64) eight ∙ row_of c.args.bytes.now c.args.k

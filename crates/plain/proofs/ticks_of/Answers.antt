@@ -1,25 +1,26 @@
 -- The invariant: the ticks that are left, from here, lead to the same board, beside any memory and spots.
-use mathlib.Core.Path.{◌≡◌, refl, sym, ap, ◌∙◌}
-use Prim.Native.Nat.{◌-◌}
+use mathlib.Core.Path.{◌≡◌, refl, sym, ◌∙◌}
+use Prim.Native.Nat.{◌+◌, ◌-◌}
 use native.Mathlib.Omega.{arith}
-use Rattle.rules.specs.declared.Machine.{Machine}
 use Rattle.plain_step.specs.Does.{board_on}
-use Rattle.plain.specs.Gone.{ticked_on}
 use Rattle.plain.proofs.Entries.{one_less}
 use Rattle.plain.proofs.ticks_of.Goals as goal
 
-pub loop-left-init : goal.loop-left-init
-loop-left-init c = λ memory spots. refl
-
-pub loop-left-preserved : goal.loop-left-preserved
-loop-left-preserved c =
+pub loop-made-init : goal.loop-made-init
+loop-made-init c =
     λ memory spots.
-    let l = c.loop-left in
-    ap (λ (m : Machine). ticked_on (l.left - 1) (board_on m memory spots)) c.tick-after.ensures
-    ∙ sym (one_less l.left (board_on l.after memory spots) c.loop-left-test.true) ∙ l.invariant memory spots
+    let all : c.args.count - 0 ≡ c.args.count = omega arith in
+    rw all refl
+
+pub loop-made-preserved : goal.loop-made-preserved
+loop-made-preserved c =
+    λ memory spots.
+    let l = c.loop-made in
+    let left : c.args.count - (l._made + 1) ≡ c.args.count - l._made - 1 = omega arith in
+    rw (c.tick-m.ensures, left) (sym (one_less (c.args.count - l._made) (board_on l.m memory spots) (omega (arith, c.loop-made-test.true))) ∙ l.invariant memory spots)
 
 pub returns : goal.returns
 returns c =
     λ memory spots.
-    let none : c.loop-left.left ≡ 0 = omega arith in
-    rw none at (c.loop-left.invariant memory spots)
+    let none : c.args.count - c.loop-made._made ≡ 0 = omega arith in
+    rw none at (c.loop-made.invariant memory spots)

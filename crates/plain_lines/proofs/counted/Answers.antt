@@ -4,4 +4,4 @@ use Rattle.rules.proofs.Counted.{after_is}
 use Rattle.plain_lines.proofs.counted.Goals as goal
 
 pub returns : goal.returns
-returns c = λ p q b a. let s = c in sym (after_is s.args.lit p q ∙ omega arith)
+returns c = λ p q b a. sym (after_is c.args.lit p q ∙ omega (arith, c.from.ensures))

@@ -5,17 +5,10 @@ use Rattle.rules.proofs.Lit.{lit_none}
 use Rattle.rules.proofs.Parts.{zeroes}
 use Rattle.plain_lines.proofs.erase.Goals as goal
 
-pub lit-before-requires : goal.lit-before-requires
-lit-before-requires c = c.requires.1
-
-pub erase-requires : goal.erase-requires
-erase-requires c = c.requires.1
-
 pub counted-requires : goal.counted-requires
 counted-requires c =
-    let s = c in
     let lit = c.lit-before.ensures in
-    let (low, high) = lit_between s.args.m.lit _ _ s.requires.2 in
+    let (low, high) = lit_between c.args.m.lit _ _ c.requires.2 in
     (lit.1, omega arith, omega (arith, lit_none, low, lit.0), omega (arith, lit_none, high, lit.0))
 
 pub returns : goal.returns

@@ -26,19 +26,19 @@ other a k b l e f = rw (eq-eqb a k e) at f
 
 pub returns-then-d-eq1 : goal.returns-then-d-eq1
 unfolding decode
-returns-then-d-eq1 c = rw c.if-d-eq1.true
+returns-then-d-eq1 c = rw (c.if-d-eq1.true, c.from_be_bytes-mmm.ensures)
 
 pub returns-then-d-eq11 : goal.returns-then-d-eq11
 unfolding decode
-returns-then-d-eq11 c = rw c.if-d-eq11.true
+returns-then-d-eq11 c = rw (c.if-d-eq11.true, c.from_be_bytes-mmm.ensures)
 
 pub returns-then-d-eq2 : goal.returns-then-d-eq2
 unfolding decode
-returns-then-d-eq2 c = rw c.if-d-eq2.true
+returns-then-d-eq2 c = rw (c.if-d-eq2.true, c.from_be_bytes-mmm.ensures)
 
 pub returns-then-hi-lo : goal.returns-then-hi-lo
 unfolding decode
-returns-then-hi-lo c = let s = c in let (a, b) = both s.args.hi 0 s.args.lo 238 c.if-hi-lo.true in rw (a, b)
+returns-then-hi-lo c = let (a, b) = both c.args.hi 0 c.args.lo 238 c.if-hi-lo.true in rw (a, b)
 
 pub returns-then-d-eq3 : goal.returns-then-d-eq3
 unfolding decode
@@ -78,47 +78,47 @@ returns-then-d-eq8 c = rw c.if-d-eq8.true c.with_vy.ensures
 
 pub returns-then-d-lo : goal.returns-then-d-lo
 unfolding decode
-returns-then-d-lo c = let s = c in let (a, b) = both (s.args.hi / 16) 15 s.args.lo 7 c.if-d-lo.true in rw (a, b)
+returns-then-d-lo c = let (a, b) = both (c.args.hi / 16) 15 c.args.lo 7 c.if-d-lo.true in rw (a, b)
 
 pub returns-then-d-lo-2 : goal.returns-then-d-lo-2
 unfolding decode
-returns-then-d-lo-2 c = let s = c in let (a, b) = both (s.args.hi / 16) 15 s.args.lo 10 c.if-d-lo-2.true in rw (a, b)
+returns-then-d-lo-2 c = let (a, b) = both (c.args.hi / 16) 15 c.args.lo 10 c.if-d-lo-2.true in rw (a, b)
 
 pub returns-then-d-lo-3 : goal.returns-then-d-lo-3
 unfolding decode
-returns-then-d-lo-3 c = let s = c in let (a, b) = both (s.args.hi / 16) 15 s.args.lo 21 c.if-d-lo-3.true in rw (a, b)
+returns-then-d-lo-3 c = let (a, b) = both (c.args.hi / 16) 15 c.args.lo 21 c.if-d-lo-3.true in rw (a, b)
 
 pub returns-then-d-lo-4 : goal.returns-then-d-lo-4
 unfolding decode
-returns-then-d-lo-4 c = let s = c in let (a, b) = both (s.args.hi / 16) 15 s.args.lo 24 c.if-d-lo-4.true in rw (a, b)
+returns-then-d-lo-4 c = let (a, b) = both (c.args.hi / 16) 15 c.args.lo 24 c.if-d-lo-4.true in rw (a, b)
 
 pub returns-then-d-eq10 : goal.returns-then-d-eq10
 unfolding decode
-returns-then-d-eq10 c = rw c.if-d-eq10.true
+returns-then-d-eq10 c = rw (c.if-d-eq10.true, c.from_be_bytes-mmm.ensures)
 
 pub returns-then-d-lo-5 : goal.returns-then-d-lo-5
 unfolding decode
-returns-then-d-lo-5 c = let s = c in let (a, b) = both (s.args.hi / 16) 15 s.args.lo 30 c.if-d-lo-5.true in rw (a, b)
+returns-then-d-lo-5 c = let (a, b) = both (c.args.hi / 16) 15 c.args.lo 30 c.if-d-lo-5.true in rw (a, b)
 
 pub returns-then-d-lo-6 : goal.returns-then-d-lo-6
 unfolding decode
-returns-then-d-lo-6 c = let s = c in let (a, b) = both (s.args.hi / 16) 15 s.args.lo 41 c.if-d-lo-6.true in rw (a, b)
+returns-then-d-lo-6 c = let (a, b) = both (c.args.hi / 16) 15 c.args.lo 41 c.if-d-lo-6.true in rw (a, b)
 
 pub returns-then-d-lo-7 : goal.returns-then-d-lo-7
 unfolding decode
-returns-then-d-lo-7 c = let s = c in let (a, b) = both (s.args.hi / 16) 15 s.args.lo 51 c.if-d-lo-7.true in rw (a, b)
+returns-then-d-lo-7 c = let (a, b) = both (c.args.hi / 16) 15 c.args.lo 51 c.if-d-lo-7.true in rw (a, b)
 
 pub returns-then-d-lo-8 : goal.returns-then-d-lo-8
 unfolding decode
-returns-then-d-lo-8 c = let s = c in let (a, b) = both (s.args.hi / 16) 15 s.args.lo 85 c.if-d-lo-8.true in rw (a, b)
+returns-then-d-lo-8 c = let (a, b) = both (c.args.hi / 16) 15 c.args.lo 85 c.if-d-lo-8.true in rw (a, b)
 
 pub returns-then-d-lo-9 : goal.returns-then-d-lo-9
 unfolding decode
-returns-then-d-lo-9 c = let s = c in let (a, b) = both (s.args.hi / 16) 15 s.args.lo 101 c.if-d-lo-9.true in rw (a, b)
+returns-then-d-lo-9 c = let (a, b) = both (c.args.hi / 16) 15 c.args.lo 101 c.if-d-lo-9.true in rw (a, b)
 
 pub returns-then-hi-lo-2 : goal.returns-then-hi-lo-2
 unfolding decode
-returns-then-hi-lo-2 c = let s = c in let (a, b) = both s.args.hi 0 s.args.lo 224 c.if-hi-lo-2.true in rw (a, b)
+returns-then-hi-lo-2 c = let (a, b) = both c.args.hi 0 c.args.lo 224 c.if-hi-lo-2.true in rw (a, b)
 
 pub returns-then-d-eq13 : goal.returns-then-d-eq13
 unfolding decode
@@ -131,8 +131,7 @@ returns-then-d-eq0 c = rw (c.if-d-eq0.true, c.if-hi-lo-2.false, c.if-hi-lo.false
 pub returns : goal.returns
 unfolding decode
 returns c =
-    let s = c in
-    let lo = s.args.lo in
-    let d = s.args.hi / 16 in
-    let e : d ≡ 15 = omega (arith, s.ranges.hi, none 15 d (((((((((((((((tt, c.if-d-eq0.false), c.if-d-eq1.false), c.if-d-eq2.false), c.if-d-eq3.false), c.if-d-eq4.false), c.if-d-eq5.false), c.if-d-eq6.false), c.if-d-eq7.false), c.if-d-eq8.false), c.if-d-eq9.false), c.if-d-eq10.false), c.if-d-eq11.false), c.if-d-eq12.false), c.if-d-eq13.false), c.if-d-eq14.false)) in
+    let lo = c.args.lo in
+    let d = c.args.hi / 16 in
+    let e : d ≡ 15 = omega (arith, c.ranges.hi, none 15 d (((((((((((((((tt, c.if-d-eq0.false), c.if-d-eq1.false), c.if-d-eq2.false), c.if-d-eq3.false), c.if-d-eq4.false), c.if-d-eq5.false), c.if-d-eq6.false), c.if-d-eq7.false), c.if-d-eq8.false), c.if-d-eq9.false), c.if-d-eq10.false), c.if-d-eq11.false), c.if-d-eq12.false), c.if-d-eq13.false), c.if-d-eq14.false)) in
     rw (e, other d 15 lo 7 e c.if-d-lo.false, other d 15 lo 10 e c.if-d-lo-2.false, other d 15 lo 21 e c.if-d-lo-3.false, other d 15 lo 24 e c.if-d-lo-4.false, other d 15 lo 30 e c.if-d-lo-5.false, other d 15 lo 41 e c.if-d-lo-6.false, other d 15 lo 51 e c.if-d-lo-7.false, other d 15 lo 85 e c.if-d-lo-8.false, other d 15 lo 101 e c.if-d-lo-9.false)

@@ -1,17 +1,21 @@
--- The invariant: what is left from i on is all moves exactly if the whole list is.
-use mathlib.Core.Path.{refl, sym, ◌∙◌}
-use native.Mathlib.Omega.{arith}
-use Rattle.playing.proofs.Moves.{no_move, a_move, no_more}
+-- The test of all of them is the definition's.
+use mathlib.Core.Path.{◌≡◌, refl, ap, ◌∙◌}
+use mathlib.Core.Bool.{Bool, ◌&&◌}
+use mathlib.Core.List.{List, [], ◌∷◌}
+use Prim.Native.Nat.{ℕ}
+use borrow.Author.Rules.{rules}
+use lib.Dec.{leb}
+use Rattle.std.specs.List.{list_all}
+use Rattle.std.proofs.lemmas.Iterator.{YieldsList-from_slice}
+use Rattle.std.proofs.lemmas.Iterator.Search.{all_from_yields_List}
+use Rattle.rules.specs.Run.{all_moves}
 use Rattle.playing.proofs.all_moves.Goals as goal
 
-pub loop-i-init : goal.loop-i-init
-loop-i-init c = (omega arith, refl)
-
-pub returns-then-moves-i-gt3 : goal.returns-then-moves-i-gt3
-returns-then-moves-i-gt3 c = let loop = c.loop-i in sym (loop.invariant.1 ∙ no_move _ loop.i c.loop-i-test.true c.if-moves-i-gt3.true)
-
-pub loop-i-preserved : goal.loop-i-preserved
-loop-i-preserved c = let loop = c.loop-i in (omega arith, loop.invariant.1 ∙ a_move _ loop.i c.loop-i-test.true c.if-moves-i-gt3.false)
+all_are : (l : List ℕ) → list_all (λ b. leb b 3) l ≡ all_moves l
+unfolding all_moves
+all_are [] = refl
+all_are (b ∷ bs) = ap (λ (rest : Bool). leb b 3 && rest) (all_are bs)
 
 pub returns : goal.returns
-returns c = sym (c.loop-i.invariant.1 ∙ no_more _ c.loop-i.i c.loop-i-test.false)
+returns c =
+    all_from_yields_List (λ b. leb b 3) _ _ _ c.all.ensures.ran (YieldsList-from_slice c.args.moves.now cc) (λ x b q k. search rules) ∙ all_are c.args.moves.now

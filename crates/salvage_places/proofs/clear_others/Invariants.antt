@@ -11,6 +11,3 @@ abbrev pub invariant-loop-p : goal.invariant-loop-p
 invariant-loop-p l =
     (l.places ≡ fit.places l.initial.history) × (l.next < l.places) × (length l.initial.history ≤ 65536) × (length l.history ≡ length l.initial.history)
     × (cleared (others_from l.places l.next l.row (l.places - l.p) l.p) l.history ≡ cleared (others (fit.places l.initial.history) l.next l.row) l.initial.history)
-
-abbrev pub decreases-loop-p : goal.decreases-loop-p
-decreases-loop-p l = l.places - l.p

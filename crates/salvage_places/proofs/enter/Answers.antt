@@ -19,4 +19,4 @@ pub returns : goal.returns
 returns c =
     let a = c.args in
     let told : in_row a.places a.t.next a.row a.p ≡ false = sym c.in_row.ensures ∙ c.if-in_row.false in
-    rw (c.standing-kind.ensures, told) record { value = refl; list_after = refl }
+    rw (c.from.ensures, c.standing_of-standing.ensures, told) record { value = refl; list_after = refl }

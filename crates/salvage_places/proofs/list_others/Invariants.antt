@@ -1,10 +1,6 @@
 -- The invariant: the places below p are looked at, and those of them that are cleared are entered.
-use Prim.Native.Nat.{◌-◌}
 use Rattle.salvage_places.proofs.Filling.{Filled}
 use Rattle.salvage_places.proofs.list_others.Given as goal
 
 abbrev pub invariant-loop-p : goal.invariant-loop-p
 invariant-loop-p l = Filled l.places l.t l.row l.initial.list l.p l.list l.count
-
-abbrev pub decreases-loop-p : goal.decreases-loop-p
-decreases-loop-p l = l.places - l.p

@@ -8,6 +8,3 @@ use Rattle.salvage_row.proofs.row_length.Given as goal
 abbrev pub invariant-loop-k : goal.invariant-loop-k
 invariant-loop-k l =
     (l.places ≡ fit.places l.history) × (l.n < l.places) × (l.k + row l.end l.history (l.kept - l.k) l.n l.d ≡ row l.end l.history l.kept l.next l.depth)
-
-abbrev pub decreases-loop-k : goal.decreases-loop-k
-decreases-loop-k l = l.kept - l.k

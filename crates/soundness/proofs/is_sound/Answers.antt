@@ -5,6 +5,7 @@ use Prim.Native.Nat.{ℕ, ◌<◌}
 use mir.Val.{Fits}
 use mir.Syntax.{w8, w16}
 use lib.ListN.{get_or, length}
+use native.Mathlib.Omega.{arith}
 use borrow.Author.Rules.{rules}
 use borrow.Author.Tests.{le-leb, lt-leb}
 use Rattle.rules.specs.declared.Machine.{Machine}
@@ -35,12 +36,12 @@ typed m sized bytes words numbers = record {
 
 pub returns-then-depth-gt-STACK : goal.returns-then-depth-gt-STACK
 returns-then-depth-gt-STACK c = record {
-  value = rw (lt-leb _ 12 c.if-depth-gt-STACK.true);
+  value = rw (lt-leb c.args.m.depth 12 (omega (arith, c.from-depth.ensures)));
   typed_machine = typed c.args.m (search rules) (search rules) (search rules) (search rules);
 }
 
 pub returns : goal.returns
 returns c = record {
-  value = rw (c.clear_from.ensures, c.held_sound.ensures, c.end_sound.ensures, le-leb _ 12 c.if-depth-gt-STACK.false);
+  value = rw (c.clear_from.ensures, c.held_sound.ensures, c.end_sound.ensures, c.from-depth.ensures, le-leb c.args.m.depth 12 (omega (arith, c.from-depth.ensures)));
   typed_machine = typed c.args.m (search rules) (search rules) (search rules) (search rules);
 }

@@ -11,16 +11,13 @@ loop-s-init c = tally_none
 pub met-requires : goal.met-requires
 met-requires c = let p = c.requires in (p.0, p.1, p.2, omega arith)
 
-pub overflow_cast-count : goal.overflow_cast-count
-overflow_cast-count c = omega (arith, c.met.ensures.1)
-
 pub overflow_add-count : goal.overflow_add-count
 overflow_add-count c = omega (arith, c.loop-s.invariant.few, c.loop-s.invariant.inside, c.met.ensures.1)
 
 pub loop-s-preserved : goal.loop-s-preserved
 loop-s-preserved c =
     let l = c.loop-s in
-    tally_more l.s _ _ l.invariant (omega arith) c.met.ensures.0 c.met.ensures.1
+    tally_more l.s _ _ l.invariant (omega arith) (c.from-count.ensures ∙ c.met.ensures.0) (omega (arith, c.met.ensures.1))
 
 pub returns : goal.returns
 returns c =

@@ -1,21 +1,12 @@
--- The invariant: the spots before s are dark, and the others stand as they were.
-use mathlib.Core.Path.{refl, sym, ◌∙◌}
-use native.Mathlib.Omega.{arith}
-use Rattle.spots.proofs.Forms.{picture_dark}
-use Rattle.spots.proofs.Walked.{walk_none, walk_more}
+-- Spots that are all dark are a dark picture.
+use mathlib.Core.Path.{◌≡◌}
+use borrow.Author.Rules.{rules}
+use lib.ListN.{length, replicate}
+use Rattle.std.proofs.Common.{ℕ}
+use Rattle.spots.proofs.Forms.{dark_spots}
 use Rattle.spots.proofs.erase.Goals as goal
 
-pub loop-s-init : goal.loop-s-init
-loop-s-init c = (c.requires.size, walk_none _ _ c.requires)
-
-pub bounds-spots-s : goal.bounds-spots-s
-bounds-spots-s c = omega (arith, c.loop-s.invariant.1.are.size)
-
-pub loop-s-preserved : goal.loop-s-preserved
-loop-s-preserved c = let l = c.loop-s in (l.invariant.0, walk_more _ _ _ l.s 0 l.invariant.1 (omega arith) refl (omega arith))
-
-pub shape_of-spots : goal.shape_of-spots
-shape_of-spots c = c.loop-s.invariant.1.are.size ∙ sym c.loop-s.invariant.0
-
 pub returns : goal.returns
-returns c = let w = c.loop-s.invariant.1 in (picture_dark _ (λ k h. w.done k (omega arith)), w.are)
+returns c =
+    let dark : c.fill.new.self ≡ replicate {A = ℕ} (length c.args.spots.now) 0 = search rules in
+    rw dark (dark_spots (length c.args.spots.now) c.requires.size)

@@ -1,29 +1,25 @@
--- The invariant: the count is the tally of the spots passed.
-use mathlib.Core.Path.{refl, sym, ◌∙◌}
+-- The sum of the spots is their tally.
+use mathlib.Core.Path.{◌≡◌, refl, ◌∙◌}
+use Prim.Native.Nat.{◌^◌, ◌≤◌}
 use native.Mathlib.Omega.{arith}
+use borrow.Author.Rules.{rules}
+use lib.ListN.{length}
+use Rattle.std.specs.List.{sum_by}
+use Rattle.std.proofs.lemmas.Iterator.{YieldsList-from_slice}
+use Rattle.std.proofs.lemmas.Iterator.Adapters.{fits_from_length, at_most_from_yields_List}
 use Rattle.spots.proofs.Forms.{spot_small, picture_lit}
-use Rattle.spots.proofs.Walked.{spot_here, tally_none, tally_more, tally_few, tally_all}
+use Rattle.spots.proofs.Walked.{tally_whole}
 use Rattle.spots.proofs.lit.Goals as goal
 
-pub loop-s-init : goal.loop-s-init
-loop-s-init c = tally_none
-
-pub bounds-spots-s : goal.bounds-spots-s
-bounds-spots-s c = omega (arith, c.requires.size)
-
-pub overflow_cast-count : goal.overflow_cast-count
-overflow_cast-count c = omega (arith, spot_small c.requires c.loop-s.s)
-
-pub overflow_add-count : goal.overflow_add-count
-overflow_add-count c = omega (arith, c.loop-s.invariant.few, c.loop-s.invariant.inside, spot_small c.requires c.loop-s.s)
-
-pub loop-s-preserved : goal.loop-s-preserved
-loop-s-preserved c =
-    let l = c.loop-s in
-    let s = c in
-    tally_more l.s _ _ l.invariant (omega arith) (sym (spot_here s.args.spots.now l.s)) (spot_small s.requires l.s)
+pub sum-requires-clause-fits : goal.sum-requires-clause-fits
+sum-requires-clause-fits c =
+    let few : length c.args.spots.now ≤ 2048 = omega (arith, c.requires.size) in
+    fits_from_length _ _ 2048 (2 ^ 64) (at_most_from_yields_List (YieldsList-from_slice c.args.spots.now cc) few) c.map.ensures.closure (omega arith)
+    (λ x r q k. search rules)
 
 pub returns : goal.returns
 returns c =
-    let l = c.loop-s in
-    (tally_all 2048 refl l.s _ l.invariant (omega arith) ∙ picture_lit _ c.requires, tally_few l.s _ l.invariant)
+    let spots = c.args.spots.now in
+    let is : c.sum.result ≡ sum_by (λ s. s) c.args.spots.now = search rules in
+    let (whole, few) = tally_whole spots (spot_small c.requires) 2048 refl c.requires.size in
+    rw is (whole ∙ picture_lit spots c.requires, few)

@@ -1,5 +1,4 @@
 -- The invariant: the count is the tally of what the callee finds at the spots passed.
-use Prim.Native.Nat.{◌-◌}
 use lib.Bits.{differ}
 use Rattle.rules.specs.Picture.{shown}
 use Rattle.spots.specs.Spots.{spot_at}
@@ -8,6 +7,3 @@ use Rattle.spots.proofs.lit_after.Given as goal
 
 abbrev pub invariant-loop-s : goal.invariant-loop-s
 invariant-loop-s l = Tally (λ x y. differ (spot_at l.spots x y) (shown l.pattern l.column l.row x y)) l.s l.count
-
-abbrev pub decreases-loop-s : goal.decreases-loop-s
-decreases-loop-s l = 2048 - l.s

@@ -10,18 +10,16 @@ bounds-spots-s c = let p = c.requires in omega (arith, p.0.size)
 
 pub returns-then-spots-s-eq0 : goal.returns-then-spots-s-eq0
 returns-then-spots-s-eq0 c =
-    let s = c in
-    let a = s.args in
-    (met_dark a.spots.now s.requires.0 a.s _ _ (shown_lit a.pattern.now a.column a.row _ _) refl c.if-spots-s-eq0.true, omega arith)
+    let a = c.args in
+    (met_dark a.spots.now c.requires.0 a.s _ _ (shown_lit a.pattern.now a.column a.row _ _) refl c.if-spots-s-eq0.true, omega arith)
 
 pub shown-requires : goal.shown-requires
 shown-requires c = let p = c.requires in (p.1, p.2, omega arith, omega arith)
 
 pub returns : goal.returns
 returns c =
-    let s = c in
-    let a = s.args in (
-      met_lit a.spots.now s.requires.0 a.s _ _ (shown_lit a.pattern.now a.column a.row _ _) c.shown.ensures.0
+    let a = c.args in (
+      met_lit a.spots.now c.requires.0 a.s _ _ (shown_lit a.pattern.now a.column a.row _ _) c.shown.ensures.0
           c.if-spots-s-eq0.false,
       c.shown.ensures.1,
     )

@@ -12,12 +12,10 @@ shown-requires c = let p = c.requires in (p.1, p.2, omega arith, omega arith)
 
 pub returns-then-spots-s : goal.returns-then-spots-s
 returns-then-spots-s c =
-    let s = c in
-    let a = s.args in
-    (turned_dark a.spots.now s.requires.0 a.s _ _ (shown_lit a.pattern.now a.column a.row _ _) c.shown.ensures.0 c.if-spots-s.true, omega arith)
+    let a = c.args in
+    (turned_dark a.spots.now c.requires.0 a.s _ _ (shown_lit a.pattern.now a.column a.row _ _) c.shown.ensures.0 c.if-spots-s.true, omega arith)
 
 pub returns : goal.returns
 returns c =
-    let s = c in
-    let a = s.args in
-    (turned_lit a.spots.now s.requires.0 a.s _ _ (shown_lit a.pattern.now a.column a.row _ _) c.shown.ensures.0 c.if-spots-s.false, omega arith)
+    let a = c.args in
+    (turned_lit a.spots.now c.requires.0 a.s _ _ (shown_lit a.pattern.now a.column a.row _ _) c.shown.ensures.0 c.if-spots-s.false, omega arith)

@@ -1,18 +1,12 @@
--- Refused by the tests 9 or 10, or filled.
-use Rattle.stepper.proofs.Calls.{draw_refused, draw_done, draw_fits}
+-- Behind both tests the page has its length and the state is sound, so the page is filled.
+use mathlib.Core.Path.{◌≡◌, sym, ◌∙◌}
+use lib.ListN.{length}
+use borrow.Author.Rules.{rules}
+use borrow.Author.Tests.{eq-eqb}
+use Rattle.stepper.proofs.Calls.{draw_done}
 use Rattle.stepper.proofs.draw.Goals as goal
-
-pub returns-in_default : goal.returns-in_default
-returns-in_default c =
-    let a = c.args in
-    draw_refused a.machine a.page.now _ (rw c.is_sound.ensures.value at c.tested-outcome.ensures) _ c.in_default.is
-
-pub fill-requires : goal.fill-requires
-fill-requires c =
-    let a = c.args in
-    draw_fits a.machine a.page.now _ (rw c.is_sound.ensures.value at c.tested-outcome.ensures) c.in-Done.is
 
 pub returns : goal.returns
 returns c =
-    let a = c.args in
-    draw_done a.machine a.page.now _ (rw c.is_sound.ensures.value at c.tested-outcome.ensures) _ c.in-Done.is c.fill.ensures
+    let size : length c.args.page.now ≡ 256 = search rules in
+    draw_done _ _ _ (eq-eqb _ 256 size) (sym c.is_sound.ensures.value ∙ c.if-not-is_sound.false) c.fill.ensures

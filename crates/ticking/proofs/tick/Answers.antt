@@ -13,7 +13,7 @@ pub returns : goal.returns
 unfolding ticked
 returns c memory picture =
     let a = c.args in
-    let at = 292 * a.trail.next in
+    let at = 292 * a.trail.now.next in
     record {
       says = refl;
       machine = c.tick.ensures _ _;
@@ -22,5 +22,5 @@ returns c memory picture =
       picture = refl;
       history =
           c.keep_state.ensures
-          ∙ ap (λ (r : List ℕ). over a.history.now at r 292) (nothing_old (whole a.c a.v.now a.stack.now) Tick);
+          ∙ ap (λ (r : List ℕ). over a.history.now at r 292) (nothing_old (whole a.c.now a.v.now a.stack.now) Tick);
     }

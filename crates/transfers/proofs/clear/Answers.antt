@@ -12,9 +12,8 @@ use Rattle.transfers.proofs.clear.Goals as goal
 
 pub counted-lit-requires : goal.counted-lit-requires
 counted-lit-requires c =
-    let s = c in
-    let (low, high) = in_range s.args.c.lit _ (bytes_of s.args.rows.now) (zeroes 256) s.requires.4 s.requires.2 in
-    (s.requires.3, low, high)
+    let (low, high) = in_range c.args.c.lit _ (bytes_of c.args.rows.now) (zeroes 256) c.requires.3 c.requires.1 in
+    (c.requires.2, low, high)
 
 pub returns : goal.returns
 returns c =
@@ -26,5 +25,5 @@ returns c =
       by_index = λ v stack.
           c.light.ensures v stack
           ∙ ap (with_lit counted.counted-lit.result) (c.idle.ensures v stack ∙ ap (with_wait Idle) (c.onward.ensures v stack))
-          ∙ ap (λ (n : ℕ). with_lit n (with_wait Idle (onward (whole s.args.c v stack)))) (counted.counted-lit.ensures before (zeroes 256) s.requires.4);
+          ∙ ap (λ (n : ℕ). with_lit n (with_wait Idle (onward (whole s.args.c v stack)))) (counted.counted-lit.ensures before (zeroes 256) s.requires.3);
     }

@@ -14,8 +14,7 @@ returns-then-number-most-le-SPOTS c =
 pub late-requires : goal.late-requires
 late-requires c =
     let few = c.would_turn.ensures.few in
-    let s = c in
-    (omega (arith, few, s.requires.4), omega (arith, few, s.requires.4))
+    (omega (arith, few, c.requires.3), omega (arith, few, c.requires.3))
 
 pub returns : goal.returns
 returns c =

@@ -30,7 +30,7 @@ returns c =
     let simple = c.simple_of-simple.result in
     let r = reached_as (c.simple_of-simple.ensures a.c.edition c.requires.0) c.requires.1 in
     let acts = c.idle-core.ensures _ _ ∙ ap (with_wait Idle) (c.simple.ensures _) in
-    made _ (Plain simple) r (plain_passes _ r.ready simple) a.keys a.random _ _ _ _ _ _ refl
+    made _ (Plain simple) r (plain_passes _ r.ready simple) a.keys a.random _ _ _ _ _ _
     (still (Plain simple) a.keys a.random m a.memory.now (bytes_of a.rows.now) refl (record { machine = acts; memory = refl; picture = refl }))
     (rw c.places-places.ensures at c.grown.ensures)
     (nothing_kept m (Step a.keys a.random) _ _ _ c.keep_state.ensures)

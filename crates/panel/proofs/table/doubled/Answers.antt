@@ -3,4 +3,4 @@ use borrow.Author.Rules.{rules}
 use Rattle.panel.proofs.table.doubled.Goals as goal
 
 pub returns : goal.returns
-returns c = c.requires.entry c.args.b (search rules)
+returns c = let is = c.requires.entry c.args.b (search rules) in rw c.from.ensures is

@@ -1,5 +1,0 @@
--- What the callees ensure, put together.
-use Rattle.plain_lines.proofs.skip_unless_vy.Goals as goal
-
-pub returns : goal.returns
-returns c = rw (c.skip_unless.ensures, c.v-2.ensures, c.v.ensures)

@@ -1,9 +1,0 @@
--- Each answer by the test that led to it.
-use borrow.Author.Tests.{eq-eqb, ne_eqb}
-use Rattle.plain_table.proofs.with_last_0.Goals as goal
-
-pub returns-then-n-eq0 : goal.returns-then-n-eq0
-returns-then-n-eq0 c = rw (eq-eqb _ _ c.if-n-eq0.true)
-
-pub returns : goal.returns
-returns c = rw (ne_eqb _ _ c.if-n-eq0.false)

@@ -1,0 +1,2 @@
+-- What the contracts of a play cite besides the rules.
+pub mod Meant

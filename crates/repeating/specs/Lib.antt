@@ -1,2 +1,0 @@
--- What the contracts of a step forward cite besides the rules.
-pub mod Left
