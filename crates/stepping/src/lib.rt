@@ -4,10 +4,10 @@
 ghost use Rattle.std.specs.Prelude.{◌≡◌, List, ℕ, ◌≤◌};
 ghost use Rattle.rules.specs.World.{world};
 ghost use Rattle.rules.specs.Call as rule;
-ghost use Rattle.rules.specs.Dark.{step_dark};
+ghost use Rattle.rules.specs.Dark.{step_dark, went_dark};
 ghost use Rattle.rules.specs.Promise.{Gives};
 ghost use Rattle.rules.specs.Rows.{bytes_of};
-ghost use Rattle.stepping.specs.Taken.{taken, went_dark};
+ghost use Rattle.stepping.specs.Taken.{taken};
 
 use parts::Core;
 use rules::{Action, Machine, Refusal, Trail};
