@@ -69,6 +69,6 @@ pub fn write_lit(rt: &impl Print, lit: u16) -> io::Result<()> {
 // Why it stopped, and where.
 pub fn write_stop(rt: &impl Print, outcome: Result<(), Refusal>, pc: u16) -> io::Result<()> {
     let mut line = ArrayString::<17>::new();
-    line::put_stop(&mut line, parts::number(outcome), pc);
+    line::push_stop(&mut line, parts::number(outcome), pc);
     rt.print(line)
 }

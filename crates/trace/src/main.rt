@@ -19,5 +19,6 @@ fn main(rt: HostRuntime) -> io::Result<()> {
     let mut input = [0u8; Machine::TOO_LONG];
     let size = reading::read_full(&mut rt.stdin(), &mut input)?;
     let trace = steps::trace_of(edition(&rt), options::end_of_memory(&rt), &input[..size]);
-    rt.print(trace)
+    // In one write: `print` would cut a long trace in two.
+    rt.write_all(trace.as_bytes())
 }

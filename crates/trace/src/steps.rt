@@ -41,14 +41,14 @@ fn put_steps(
         let pc = machine.pc;
         let op = word_at(memory, pc);
         match chip8::step(machine, trail, memory, rows, history, 0, 0) {
-            Ok(_) => line::put_step(out, n, pc, op, machine.i, machine.v[0], machine.v[15]),
+            Ok(_) => line::push_step(out, n, pc, op, machine.i, machine.v[0], machine.v[15]),
             Err(why) => {
-                line::put_stop(out, u8::from(why), pc);
+                line::push_stop(out, u8::from(why), pc);
                 return;
             }
         }
     }
-    line::put_stop(out, 0, machine.pc);
+    line::push_stop(out, 0, machine.pc);
 }
 
 pub fn trace_of(edition: Edition, end: u16, program: &[u8]) -> ArrayString<{ ROOM }>
@@ -58,7 +58,7 @@ pub fn trace_of(edition: Edition, end: u16, program: &[u8]) -> ArrayString<{ ROO
     let mut rows = [0u64; Machine::ROWS];
     let mut history = [0u8; history::PLACE];
     let mut out = ArrayString::new();
-    line::put_header(&mut out);
+    line::push_header(&mut out);
     let mut start = chip8::load(edition, end, program, &mut memory, &mut rows, &mut history);
     match start.outcome {
         Ok(()) => {
@@ -73,7 +73,7 @@ pub fn trace_of(edition: Edition, end: u16, program: &[u8]) -> ArrayString<{ ROO
             out
         }
         Err(why) => {
-            line::put_stop(&mut out, u8::from(why), start.machine.pc);
+            line::push_stop(&mut out, u8::from(why), start.machine.pc);
             out
         }
     }

@@ -10,11 +10,11 @@ use Rattle.trace.proofs.steps.trace_of.Goals as goal
 pub returns-in-Ok : goal.returns-in-Ok
 returns-in-Ok c =
     let given = rw bytes_dark at c.load-start.ensures in
-    let begun : c.put_header.new.out.bytes ≡ header = c.put_header.ensures ∙ rw c.new-out.ensures in
+    let begun : c.push_header.new.out.bytes ≡ header = c.push_header.ensures ∙ rw c.new-out.ensures in
     load_done _ _ _ begun (sym given.says ∙ done_number c.in-Ok.is) (handed given) c.put_steps.ensures
 
 pub returns-in-Err : goal.returns-in-Err
 returns-in-Err c =
     let given = rw bytes_dark at c.load-start.ensures in
-    let begun : c.put_header.new.out.bytes ≡ header = c.put_header.ensures ∙ rw c.new-out.ensures in
-    load_refused _ _ _ begun (sym given.says ∙ ap number c.in-Err.is ∙ sym c.from.ensures) (λ e. some_number _ (sym c.from.ensures ∙ e)) (handed given) c.put_stop.ensures
+    let begun : c.push_header.new.out.bytes ≡ header = c.push_header.ensures ∙ rw c.new-out.ensures in
+    load_refused _ _ _ begun (sym given.says ∙ ap number c.in-Err.is ∙ sym c.from.ensures) (λ e. some_number _ (sym c.from.ensures ∙ e)) (handed given) c.push_stop.ensures
