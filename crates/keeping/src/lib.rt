@@ -164,8 +164,10 @@ pub fn keep(
 {
     // From the old bytes of this place on, so many bytes lead to the next multiple of sixteen in the history.
     let skew = 12 * next % 16;
+    // The place is cut out at both ends, so its length is known to the compiler, and no test of it is left in a run.
     let (_, rest) = history.split_at_mut(PLACE * next);
-    let place = rest.first_chunk_mut().unwrap();
+    let (place, _) = rest.split_at_mut(PLACE);
+    let place = place.as_mut_array().unwrap();
     write(place, skew, c, v, stack, change, action);
 }
 
@@ -197,7 +199,8 @@ pub fn keep_old(history: &mut [u8], next: usize, change: Change, memory: &[u8], 
         (old change memory.now (bytes_of rows.now)) (count change) }
 {
     let (_, rest) = history.split_at_mut(PLACE * next);
-    let place = rest.first_chunk_mut().unwrap();
+    let (place, _) = rest.split_at_mut(PLACE);
+    let place = place.as_mut_array().unwrap();
     lay_old(place, change, memory, rows);
 }
 
@@ -217,6 +220,7 @@ pub fn keep_state(
     // The skew depends on the place alone, as in `keep`.
     let skew = 12 * next % 16;
     let (_, rest) = history.split_at_mut(PLACE * next);
-    let place = rest.first_chunk_mut().unwrap();
+    let (place, _) = rest.split_at_mut(PLACE);
+    let place = place.as_mut_array().unwrap();
     write_state(place, skew, c, v, stack, action);
 }

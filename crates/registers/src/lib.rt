@@ -11,7 +11,7 @@ ghost use Rattle.rules.specs.declared.Wait.TheVariants.{Idle};
 ghost use Rattle.parts.specs.Whole.{whole};
 
 use parts::Core;
-use rules::{Machine, Wait};
+use rules::{Machine, Timers, Wait};
 
 // ---- numbers
 
@@ -88,11 +88,20 @@ pub fn light(mut c: Core, lit: u16) -> Core
     c
 }
 
-fn with_wait(mut c: Core, w: Wait) -> Core
+// The timers are written one by one: copied as a whole they are a number of two bytes to the compiler, which it puts together and takes apart at
+// every step.
+fn with_wait(c: Core, w: Wait) -> Core
     ensures { (v stack : List ℕ) → whole result v stack ≡ with_wait w (whole c v stack) }
 {
-    c.wait = w;
-    c
+    let timers = Timers {
+        delay: c.timers.delay,
+        tone: c.timers.tone,
+    };
+    Core {
+        timers,
+        wait: w,
+        ..c
+    }
 }
 
 // Every instruction but FX0A leaves the wait so.

@@ -25,6 +25,7 @@ use Rattle.rules.specs.Promise.{Gives, GivesRun}
 use Rattle.rules.proofs.Given.{tests, handed, gives_as, some_number}
 use Rattle.rules.proofs.Ready.{Ready, step_ready, ticks_ready}
 use Rattle.entries.proofs.Ticks.{gives_world, world_gives}
+use Rattle.running.proofs.Nothing.{nothing_added}
 
 pub record SameLength (first ks rs : List ℕ) : Type 0 where
   pub keys : length ks ≡ length first
@@ -148,6 +149,15 @@ module _ (ticks keys randoms : List ℕ) (w₀ w : World) (i dark copied : ℕ) 
           spots = sum_on step_dark 120 ticks keys randoms w₀ w i dark h.spots h.lists more _ d passed at e l;
           bytes = sum_on step_copied 256 ticks keys randoms w₀ w i copied h.bytes h.lists more _ k passed at f s;
         }
+
+    -- and one that copies nothing leaves both sums
+    pub went_on_alone : {A : Type 0} (x : A) (m : Machine) (t : Trail) (mem pic his : List ℕ) (d k : ℕ) → Gives entry (Ok x) m t mem pic his
+        → d ≡ step_dark (ticks_of ticks w i) → d ≤ 120 → k ≡ step_copied (ticks_of ticks w i) → k ≤ 256 → k ≡ 0
+        → Running ticks keys randoms w₀ (world m t mem pic his) (i + 1) dark copied
+    went_on_alone x m t mem pic his d k g e l f s none =
+        let no_dark : dark + d ≡ dark = omega (arith, e ∙ nothing_added _ (sym f ∙ none)) in
+        let no_bytes : copied + k ≡ copied = omega (arith, none) in
+        rw (no_dark, no_bytes) at (went_on x m t mem pic his d k g e l f s)
 
     pub stopped : {A : Type 0} (r : Refusal) (m : Machine) (t : Trail) (mem pic his : List ℕ) → Gives {A = A} entry (Err r) m t mem pic his
         → GivesRun {A = ⊤} (run_from 0 ticks keys randoms w₀) i (Err r) m t mem pic his

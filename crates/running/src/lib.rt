@@ -1,8 +1,8 @@
 // A run, entry by entry. The variables, the stack, the rest of the state and the numbers are locals of the run, lent to each entry, so a step
-// copies none of them.
+// copies neither the variables nor the stack.
 #![tactic(auto)]
 
-ghost use Rattle.std.specs.Prelude.{◌≡◌, true, ◌+◌, ◌*◌, ◌^◌, ◌≤◌, ◌<◌, Err};
+ghost use Rattle.std.specs.Prelude.{◌≡◌, true, ◌+◌, ◌*◌, ◌^◌, ◌≤◌, ◌<◌};
 ghost use Rattle.rules.specs.World.{world};
 ghost use Rattle.rules.specs.Run.{run_from, total_from, lists_fit};
 ghost use Rattle.rules.specs.Run as runs;
@@ -16,26 +16,15 @@ ghost use Rattle.parts.specs.Whole.{whole};
 use parts::{Core, Ran};
 use rules::{Machine, Refusal, Trail};
 
-// What a step adds to a sum. One that copies nothing adds nothing to either of the two, and most steps are such.
-fn added(sum: usize, more: usize, copied: usize) -> usize
-    requires { (copied ≡ 0 → more ≡ 0) × (sum + more < 2 ^ 64) }
-    ensures { result ≡ sum + more }
-{
-    if copied == 0 {
-        return sum;
-    }
-    sum + more
-}
-
 // A run whose entry `accepted` is refused answers what the entries before it came to.
-fn stopped(accepted: usize, dark: usize, copied: usize, why: Refusal) -> Ran
-    ensures { result ≡ record { accepted = accepted; dark = dark; copied = copied; outcome = Err why } }
+fn stopped(accepted: usize, dark: usize, copied: usize, outcome: Result<(), Refusal>) -> Ran
+    ensures { result ≡ record { accepted = accepted; dark = dark; copied = copied; outcome = outcome } }
 {
     Ran {
         accepted,
         dark,
         copied,
-        outcome: Err(why),
+        outcome,
     }
 }
 
@@ -67,15 +56,19 @@ fn run_entries(
     let mut dark = 0;
     let mut copied = 0;
     for i in 0..ticks.len() {
-        match entries::entry(
+        let made = entries::entry(
             c, v, stack, trail, memory, rows, history, ticks[i], keys[i], randoms[i],
-        ) {
-            Ok(counts) => {
-                copied = added(copied, counts.copied, counts.copied);
-                dark = added(dark, counts.dark, counts.copied);
-            }
-            Err(why) => return stopped(i, dark, copied, why),
+        );
+        let Ok(counts) = made else {
+            return stopped(i, dark, copied, made.map(|_counts| ()));
+        };
+        // Most steps copy nothing, and one that copies nothing adds nothing to either sum. The test stands here and not in a function: so the
+        // compiler leaves the sums out of a step that is known to copy nothing.
+        if counts.copied == 0 {
+            continue;
         }
+        copied += counts.copied;
+        dark += counts.dark;
     }
     Ran {
         accepted: ticks.len(),
@@ -143,7 +136,7 @@ pub fn run(
 {
     let lists = fitting::lists_fit(ticks.len(), keys.len(), randoms.len());
     if let Err(why) = judge::admitted(*machine, *trail, memory, rows, history, lists) {
-        return stopped(0, 0, 0, why);
+        return stopped(0, 0, 0, Err(why));
     }
     let memory = memory.as_mut_array().unwrap();
     let rows = rows.as_mut_array().unwrap();

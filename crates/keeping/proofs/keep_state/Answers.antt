@@ -6,4 +6,4 @@ use Rattle.keeping.proofs.keep_state.Goals as goal
 pub returns : goal.returns
 returns c =
     let cut = c.split_at_mut-rest.ensures in
-    rw c.write_state.ensures (lent_place _ _ _ _ (292 * c.args.next) 292 cut.front cut.back)
+    rw (c.write_state.ensures, c.split_at_mut-place.ensures.back) (lent_place _ _ _ _ (292 * c.args.next) 292 cut.front cut.back)
