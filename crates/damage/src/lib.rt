@@ -66,7 +66,8 @@ fn depth_sound(place: &[u8; PLACE], present: u8) -> bool
     let depth = depth_at(place);
     let last = memory::word_at(place, keeping::AT_LAST);
     (depth as usize <= Machine::STACK)
-        & (depth.abs_diff(present) <= 1)
+        & (depth.saturating_sub(present) <= 1)
+        & (present.saturating_sub(depth) <= 1)
         & ((depth != 0) | (last == 0))
 }
 

@@ -65,7 +65,7 @@ fn lay_all(
     let rows = rows.as_mut_array().unwrap();
     lay_out(program, memory);
     picture::clear(rows);
-    history.fill(0);
+    memory::clear(history, 0);
     Ok(())
 }
 

@@ -166,16 +166,18 @@ module _ (ticks keys randoms : List ℕ) (b₀ : Board) (m : Machine) (mem spots
           same = rw (accepted_board l z) (rw (eq-eqb (step_own c) 0 z) at opened);
         }
 
-    pub stopped : (refusal : Refusal) (m' : Machine) (mem' spots' : List ℕ) → Leaves {A = ⊤} (step_own c) (stepped_to k r c) (Err refusal) m' mem' spots'
-        → GivesPlain (in_spots (gone_from 0 ticks keys randoms b₀)) i (Err refusal) m' mem' spots'
-    stopped refusal m' mem' spots' l =
-        let some : step_own c ≡ 0 → ⊥ = λ z. some_number refusal (l.says ∙ z) in
+    pub stopped : (o : Result ⊤ Refusal) (refusal : Refusal) (m' : Machine) (mem' spots' : List ℕ)
+        → Leaves (step_own c) (stepped_to k r c) o m' mem' spots'
+        → o ≡ Err refusal → GivesPlain (in_spots (gone_from 0 ticks keys randoms b₀)) i (Err refusal) m' mem' spots'
+    stopped o refusal m' mem' spots' l refused =
+        let says = sym (ap number refused) ∙ l.says in
+        let some : step_own c ≡ 0 → ⊥ = λ z. some_number refusal (says ∙ z) in
         let last = rw (ne_eqb (step_own c) 0 some) at opened in
         let b = refused_board l some in
         rw (← last)
         (record {
           accepted = refl;
-          says = l.says;
+          says = says;
           machine = ap (λ (d : Board). d.machine) b;
           memory = ap (λ (d : Board). d.memory) b;
           picture = sym (spots_back spots' l.are) ∙ ap (λ (d : Board). spots_of d.picture) b;

@@ -89,7 +89,8 @@ fn run_entries(
         result.accepted result.outcome machine.new memory.new spots.new }
 {
     for i in 0..ticks.len() {
-        if let Err(why) = entry(machine, memory, spots, ticks[i], keys[i], randoms[i]) {
+        let outcome = entry(machine, memory, spots, ticks[i], keys[i], randoms[i]);
+        if let Err(why) = outcome {
             return stopped(i, why);
         }
     }

@@ -89,7 +89,7 @@ fn clear_place(history: &mut [u8], p: usize)
     ensures { history.new ≡ without history.old p }
 {
     let at = keeping::PLACE * p;
-    history[at..at + keeping::PLACE].fill(0);
+    memory::clear(&mut history[at..at + keeping::PLACE], 0);
 }
 
 // Clears a place that does not hold one of the `row` newest records.

@@ -77,7 +77,10 @@ pub fn drawable(
         (rule.lit_refusal c.lit (bytes_of rows.now)
         (drawn (part memory.now c.i n) column row (bytes_of rows.now))) }
 {
-    past(c, n as usize)?;
+    let outcome = past(c, n as usize);
+    let Ok(()) = outcome else {
+        return outcome;
+    };
     late_drawing(c.lit, column, row, transfers::pattern(c.i, n, memory), rows)
 }
 

@@ -1,6 +1,6 @@
 -- Refused before anything is written, or laid out and cleared.
 use mathlib.Core.Path.{sym, ◌∙◌}
-use Rattle.std.proofs.Common.{rules}
+use native.Mathlib.Nat.{sub-zero}
 use Rattle.std.proofs.lemmas.Result.{err_from_is_err_and}
 use Rattle.rules.proofs.Given.{done_number}
 use Rattle.rules.proofs.Turning.{picture_rows}
@@ -24,4 +24,5 @@ lay_out-requires c = (load_room _ _ _ _ _ (sym c.judged.ensures ∙ done_number 
 
 pub returns : goal.returns
 returns c edition =
-    load_gives _ _ _ _ _ _ (sym c.judged.ensures ∙ done_number c.in_ok-judged.was) _ _ _ c.lay_out.ensures c.clear.ensures (search rules)
+    load_gives _ _ _ _ _ _ (sym c.judged.ensures ∙ done_number c.in_ok-judged.was) _ _ _ c.lay_out.ensures c.clear.ensures
+    (rw sub-zero at c.clear-2.ensures)

@@ -14,16 +14,15 @@ bounds-keys-i c = omega (arith, c.loop-i.invariant.lists.keys)
 pub bounds-randoms-i : goal.bounds-randoms-i
 bounds-randoms-i c = omega (arith, c.loop-i.invariant.lists.randoms)
 
-pub entry-requires : goal.entry-requires
-entry-requires c = c.loop-i.invariant.play
+pub entry-outcome-requires : goal.entry-outcome-requires
+entry-outcome-requires c = c.loop-i.invariant.play
 
 pub returns-in-Err : goal.returns-in-Err
 returns-in-Err c =
-    let left = rw c.in-Err.is at c.entry.ensures in
-    rw c.stopped.ensures (stopped _ _ _ _ _ _ _ _ c.loop-i.invariant c.loop-i-test.true _ _ _ _ left)
+    rw c.stopped.ensures (stopped _ _ _ _ _ _ _ _ c.loop-i.invariant c.loop-i-test.true _ _ _ _ _ c.entry-outcome.ensures c.in-Err.is)
 
 pub loop-i-preserved : goal.loop-i-preserved
-loop-i-preserved c = went_on _ _ _ _ _ _ _ _ c.loop-i.invariant c.loop-i-test.true _ _ _ _ _ c.entry.ensures c.in_default.is
+loop-i-preserved c = went_on _ _ _ _ _ _ _ _ c.loop-i.invariant c.loop-i-test.true _ _ _ _ _ c.entry-outcome.ensures c.in_default.is
 
 pub returns : goal.returns
 returns c =

@@ -2,7 +2,6 @@
 use mathlib.Core.Path.{◌≡◌, ap, ◌∙◌}
 use Prim.Native.Nat.{ℕ, ◌+◌, ◌-◌, ◌*◌}
 use native.Mathlib.Omega.{arith}
-use borrow.Author.Rules.{rules}
 use lib.ListN.{length, take, drop, replicate, length-take, length-drop}
 use Rattle.rules.proofs.Laid.{lent}
 use Rattle.salvage_places.specs.Cleared.{empty_place}
@@ -12,5 +11,5 @@ pub returns : goal.returns
 returns c =
     let a = c.args in
     let at = 292 * a.p in
-    let sized : length (take (at + 292 - at) (drop at a.history.now)) ≡ 292 = simp (length-take, length-drop) (omega arith) in
-    lent at 292 a.history.now _ empty_place (c.fill.ensures.after (λ y e. search rules) ∙ ap (λ (n : ℕ). replicate {A = ℕ} n 0) sized)
+    let sized : length (take (at + 292 - at) (drop at a.history.now)) - 0 ≡ 292 = simp (length-take, length-drop) (omega arith) in
+    lent at 292 a.history.now _ empty_place (c.clear.ensures ∙ ap (λ (n : ℕ). replicate {A = ℕ} n 0) sized)

@@ -3,21 +3,23 @@ use mathlib.Core.Path.{sym, ap, ◌∙◌}
 use mathlib.Core.List.{[]}
 use native.Mathlib.Omega.{arith}
 use lib.ListN.{length-take}
-use Rattle.std.proofs.lemmas.Result.{err_from_is_err_and}
 use Rattle.rules.specs.Refusal.{number}
+use Rattle.rules.specs.Step.{past}
 use Rattle.rules.proofs.Given.{done_number, some_number}
 use Rattle.parts.specs.Whole.{whole}
-use Rattle.verdict.proofs.Laws.{settled, within}
+use Rattle.verdict.proofs.Laws.{refused, settled, within}
 use Rattle.verdict.proofs.drawable.Goals as goal
 
-pub returns-in_err-past : goal.returns-in_err-past
-returns-in_err-past c v stack =
-    let p = err_from_is_err_and c.from_residual.result c.from_residual.ensures.1 in
-    rw (p.1, p.2) (settled _ _ _ (sym (ap number c.in_err-past.was) ∙ c.past.ensures v stack) (some_number _))
+pub returns-in_default : goal.returns-in_default
+returns-in_default c v stack =
+    let says = c.past-outcome.ensures v stack in
+    let six = refused (whole c.args.c v stack) c.args.n
+    (λ z. some_number c.in_default.field-0 (sym (ap number c.in_default.is) ∙ says ∙ z)) in
+    settled _ (past (whole c.args.c v stack) c.args.n) _ (omega (arith, says, six)) (λ z. omega (arith, says, six, z))
 
 pub pattern-requires : goal.pattern-requires
 pattern-requires c =
-    let below = within (whole c.args.c [] []) c.args.n (sym (c.past.ensures [] []) ∙ done_number c.in_ok-past.was) in
+    let below = within (whole c.args.c [] []) c.args.n (sym (c.past-outcome.ensures [] []) ∙ done_number c.in-Ok.is) in
     omega (arith, below, c.requires.1)
 
 pub late_drawing-requires : goal.late_drawing-requires
@@ -26,4 +28,4 @@ late_drawing-requires c =
 
 pub returns : goal.returns
 returns c v stack =
-    rw (sym (c.past.ensures v stack) ∙ done_number c.in_ok-past.was) (rw c.pattern.ensures at c.late_drawing.ensures)
+    rw (sym (c.past-outcome.ensures v stack) ∙ done_number c.in-Ok.is) (rw c.pattern.ensures at c.late_drawing.ensures)
