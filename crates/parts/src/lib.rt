@@ -1,5 +1,5 @@
 // The parts that are handed about. Of a machine: the variables and the stack are arrays that are lent, so that no step copies them; the
-// rest is small: lent to entries and ticks, and by value below. And what a load and a run answer beside what they are lent, with its number.
+// rest is small: lent to entries and ticks, by value below. And what a load and a run answer, and the number of what came of a call.
 //
 // What a call is lent goes from function to function as references of its own, and the key bits and the random byte as two numbers. A struct of
 // the references would have every contract say besides, of each field, that it is still the same reference, or its caller learns nothing of the
